@@ -3,9 +3,10 @@ ghost use Rattle.sc_base.specs.Text.{text_order, text_of};
 
 use std::alloc::{AllocError, Global};
 use std::cmp::Ordering;
+use std::hash::{Hash, Hasher};
 use std::marker::Model;
 
-/// A text, which contracts see as its bytes.
+/// A text in UTF-8, which contracts see as its bytes. Texts are ordered by their bytes.
 #[derive(Debug, Drop)]
 pub struct Text {
     inner: String,
@@ -20,7 +21,7 @@ impl Model for Text {
 }
 
 impl Text {
-    /// The text that these bytes are, or none where they aren't UTF-8.
+    /// A copy of these bytes as a text, or `None` exactly where they aren't UTF-8.
     pub fn of(alloc: Global, bytes: &[u8]) -> Result<Option<Text>, AllocError>
         ensures some { IfOk result (λ found. IfSome found (λ t. t ≡ bytes.now)) }
         ensures utf8 { IfOk result (λ found. IfSome found (λ t. IsUtf8 bytes.now)) }
@@ -32,6 +33,7 @@ impl Text {
         }
     }
 
+    /// A copy of a text.
     pub fn from_str(alloc: Global, text: &str) -> Result<Text, AllocError>
         ensures { IfOk result (λ t. t ≡ text.now) }
     {
@@ -40,27 +42,36 @@ impl Text {
         })
     }
 
-    /// A text of a `String`, without memory.
+    /// The text that a `String` holds. Takes no memory.
     pub fn from_string(text: String) -> Text
         ensures { result ≡ string_bytes text }
     {
         Text { inner: text }
     }
 
-    /// The text that these bytes are, without memory.
+    /// These bytes as a text, or `None` exactly where they aren't UTF-8. Takes no memory.
     pub fn of_vec(bytes: Vec<u8>) -> Option<Text>
         ensures { result ≡ text_of bytes.items }
     {
         match std::str::from_utf8(bytes.as_slice()) {
-            Err(_) => return None,
-            Ok(_) => {}
-        }
-        match String::from_utf8(bytes) {
-            Ok(inner) => Some(Text { inner }),
-            Err(_) => unreachable!(),
+            Err(_) => None,
+            Ok(_) => {
+                // They were just judged, so they aren't judged again.
+                let inner = unsafe { String::from_utf8_unchecked(bytes) };
+                Some(Text { inner })
+            }
         }
     }
 
+    /// The `String` that the text stands in. Takes no memory.
+    pub fn into_string(self) -> String
+        ensures { string_bytes result ≡ self }
+    {
+        let Text { inner } = self;
+        inner
+    }
+
+    /// The text's bytes.
     pub fn bytes(&self) -> &[u8]
         ensures bytes { result.now ≡ self.now }
         ensures utf8 { IsUtf8 self.now }
@@ -68,31 +79,35 @@ impl Text {
         self.inner.as_str().as_bytes()
     }
 
+    /// The text as a `&str`.
     pub fn as_str(&self) -> &str
         ensures { result.now ≡ self.now }
     {
         self.inner.as_str()
     }
 
+    /// The number of bytes.
     pub fn len(&self) -> usize
         ensures { result ≡ length self.now }
     {
         self.inner.len()
     }
 
+    /// Whether the text has no byte.
     pub fn is_empty(&self) -> bool
         ensures { IsTrue result ↔ (length self.now ≡ 0) }
     {
         self.inner.is_empty()
     }
 
+    /// A copy of the text.
     pub fn try_clone(&self, alloc: Global) -> Result<Text, AllocError>
         ensures { IfOk result (λ t. t ≡ self.now) }
     {
         Text::from_str(alloc, self.as_str())
     }
 
-    /// Adds a text at the end. An `Err` changes nothing.
+    /// Adds a text at the end. Want of memory changes nothing.
     pub fn push_str(&mut self, more: &str) -> Result<(), AllocError>
         ensures ok { OnOk result (self.new ≡ self.old ++ more.now) }
         ensures err { OnErr result (self.new ≡ self.old) }
@@ -148,5 +163,19 @@ impl Ord for Text {
 
     fn cmp(&self, other: &Self) -> Ordering {
         self.as_str().cmp(other.as_str())
+    }
+}
+
+impl Hash for Text {
+    ghost use Rattle.std.specs.Hash as fed;
+    ghost use Rattle.std.specs.Cmp.Rules.{hashing};
+    ghost use Rattle.std.proofs.Common.{rules};
+
+    ghost hash_input = { fed.str };
+
+    ghost respects_eq = { Prim.search (hashing, rules) };
+
+    fn hash<H: Hasher>(&self, state: &mut H) {
+        self.as_str().hash(state);
     }
 }
