@@ -1,0 +1,4 @@
+pub mod Calendar
+pub mod Form
+pub mod Instant
+pub mod Reading

@@ -1,0 +1,68 @@
+-- What a text reads as: an instant, a day or a range of time, or the first fault (RFC 3339 §5.6 and §5.7, and the calendar).
+use Rattle.std.specs.Prelude.{ℕ, ◌+◌, ◌*◌, Bool, ◌&&◌, ◌==◌, nat_lt, if◌then◌else◌, List, [], ◌∷◌, take, drop, Option, Some, None, Result, Ok, Err, ℤ, pos, neg_ℤ, ◌+ℤ◌, ◌-ℤ◌, ◌*ℤ◌}
+use Rattle.sc_time.specs.declared.form.DateFields.{DateFields}
+use Rattle.sc_time.specs.declared.form.ClockFields.{ClockFields}
+use Rattle.sc_time.specs.declared.form.OffsetFields.{OffsetFields}
+use Rattle.sc_time.specs.declared.form.DateTimeFields.{DateTimeFields}
+use Rattle.sc_time.specs.declared.fault.TimeFault.{TimeFault}
+use Rattle.sc_time.specs.declared.fault.TimeFault.TheVariants.{BadForm, BadDate, OutOfRange, Backwards}
+use Rattle.sc_time.specs.Calendar.{is_date, day_number}
+use Rattle.sc_time.specs.Instant.{is_instant, midnight}
+use Rattle.sc_time.specs.Form.{date_form, date_time_form}
+
+-- the date is in the calendar
+abbrev pub is_calendar_date : DateFields → Bool
+is_calendar_date date = is_date date.year date.month date.day
+
+abbrev pub day_of_fields : DateFields → ℤ
+day_of_fields date = day_number date.year date.month date.day
+
+-- a time of day and an offset that are in range; there are no leap seconds
+abbrev pub is_clock_time : ClockFields → Bool
+is_clock_time clock = nat_lt clock.hour 24 && (nat_lt clock.minute 60 && nat_lt clock.second 60)
+
+abbrev pub is_offset : OffsetFields → Bool
+is_offset offset = nat_lt offset.hour 24 && nat_lt offset.minute 60
+
+-- all numbers of a date-time are in range
+abbrev pub is_date_time : DateTimeFields → Bool
+is_date_time form = is_calendar_date form.date && (is_clock_time form.clock && is_offset form.offset)
+
+-- seconds since midnight
+abbrev pub seconds_of_clock : ClockFields → ℕ
+seconds_of_clock clock = clock.hour * 3600 + clock.minute * 60 + clock.second
+
+-- how many seconds the clock is ahead of UTC
+abbrev pub seconds_ahead : OffsetFields → ℤ
+seconds_ahead offset =
+    if offset.west then neg_ℤ (pos (offset.hour * 3600 + offset.minute * 60))
+    else pos (offset.hour * 3600 + offset.minute * 60)
+
+-- the seconds since 1970 of a date-time in UTC, its fraction left out
+abbrev pub seconds_of_date_time : DateTimeFields → ℤ
+seconds_of_date_time form =
+    day_of_fields form.date *ℤ pos 86_400 +ℤ pos (seconds_of_clock form.clock) -ℤ seconds_ahead form.offset
+
+-- the instant in nanoseconds
+abbrev pub nanoseconds_of : DateTimeFields → ℤ
+nanoseconds_of form = seconds_of_date_time form *ℤ pos 1_000_000_000 +ℤ pos form.nanosecond
+
+-- the instant of a date-time that has the form, or the first fault
+abbrev pub instant_of_form : Option DateTimeFields → Result ℤ TimeFault
+instant_of_form None = Err BadForm
+instant_of_form (Some form) =
+    if is_date_time form then (if is_instant (nanoseconds_of form) then Ok (nanoseconds_of form) else Err OutOfRange)
+    else Err BadDate
+
+-- a date-time as an instant
+unfoldable pub instant_reading : List ℕ → Result ℤ TimeFault
+instant_reading text = instant_of_form (date_time_form text)
+
+-- midnight UTC of a date that has the form, or the first fault
+abbrev pub instant_of_date : Option DateFields → Result ℤ TimeFault
+instant_of_date None = Err BadForm
+instant_of_date (Some date) = if is_calendar_date date then Ok (midnight (day_of_fields date)) else Err BadDate
+
+-- a date as midnight UTC
+unfoldable pub date_reading : List ℕ → Result ℤ TimeFault
+date_reading text = instant_of_date (date_form text)

@@ -1,0 +1,10 @@
+//! Instants and ranges of time, read and written as RFC 3339 has them.
+#![tactic(auto)]
+
+mod fault;
+mod form;
+mod instant;
+mod read;
+
+pub use fault::TimeFault;
+pub use instant::Instant;
