@@ -10,6 +10,7 @@ use Rattle.jiff_core.specs.declared.civil.date.Date.{Date}
 use Rattle.std.specs.Int.{IsInRange}
 use borrow.Author.Differences.{up, down}
 use Rattle.sc_time.specs.declared.form.DateFields.{DateFields}
+use Rattle.sc_time.specs.Instant.{IsDayNumber}
 use Rattle.sc_time.specs.Reading.{is_calendar_date, day_of_fields}
 use Rattle.sc_time.specs.Calendar.{is_leap_year, is_date, IsDate, days_of_year, days_of_month, days_before_year, days_of_months, days_before_date, day_number}
 
@@ -78,3 +79,9 @@ day_number-parts year month day = rw days_before_epoch (omega (arith, signed_ari
 -- no day comes before 1 January of the year 0
 pub day_number-first : (year month day : ℕ) → neg_ℤ (pos 719_528) ≤ℤ day_number year month day
 day_number-first year month day = omega (arith, signed_arith, day_number-parts year month day)
+
+pub found_range : (year : ℕ) (found : Date) (day : ℤ) → found.year ≡ pos year → day ≡ jiff_day found → jiff.IsEpochDay day → IsDayNumber day
+found_range year found day year_is is (low, high) =
+    let number : day ≡ day_number year found.month found.day =
+        rw year_is at is ∙ sym (day_number-days_from_civil year found.month found.day found.day_in.0) in
+    (rw number (day_number-first year found.month found.day), high)

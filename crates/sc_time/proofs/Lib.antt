@@ -1,2 +1,3 @@
 pub mod Calendars
 pub mod Fractions
+pub mod Readings

@@ -10,6 +10,10 @@ IsInstant at = (neg_ℤ (pos 62_167_219_200_000_000_000) ≤ℤ at) × (at <ℤ 
 abbrev pub is_instant : ℤ → Bool
 is_instant at = int_le (neg_ℤ (pos 62_167_219_200_000_000_000)) at && int_lt at (pos 253_402_300_800_000_000_000)
 
+-- the number of a day in the years 0000 to 9999
+abbrev pub IsDayNumber : ℤ → Type 0
+IsDayNumber day = (neg_ℤ (pos 719_528) ≤ℤ day) × (day ≤ℤ pos 2_932_896)
+
 -- midnight at the beginning of a day, which is given by its number
 abbrev pub midnight : ℤ → ℤ
 midnight day = day *ℤ pos 86_400_000_000_000

@@ -1,4 +1,5 @@
 pub mod Calendar
+pub mod Ends
 pub mod Form
 pub mod Instant
 pub mod Reading

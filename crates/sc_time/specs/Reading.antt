@@ -1,5 +1,5 @@
 -- What a text reads as: an instant, a day or a range of time, or the first fault (RFC 3339 §5.6 and §5.7, and the calendar).
-use Rattle.std.specs.Prelude.{ℕ, ◌+◌, ◌*◌, Bool, ◌&&◌, ◌==◌, nat_lt, if◌then◌else◌, List, [], ◌∷◌, take, drop, Option, Some, None, Result, Ok, Err, ℤ, pos, neg_ℤ, ◌+ℤ◌, ◌-ℤ◌, ◌*ℤ◌}
+use Rattle.std.specs.Prelude.{ℕ, ◌+◌, ◌*◌, Bool, true, false, ◌&&◌, ◌==◌, nat_lt, if◌then◌else◌, List, [], ◌∷◌, take, drop, Option, Some, None, Result, Ok, Err, ℤ, pos, neg_ℤ, ◌+ℤ◌, ◌-ℤ◌, ◌*ℤ◌}
 use Rattle.sc_time.specs.declared.form.DateFields.{DateFields}
 use Rattle.sc_time.specs.declared.form.ClockFields.{ClockFields}
 use Rattle.sc_time.specs.declared.form.OffsetFields.{OffsetFields}
@@ -8,6 +8,8 @@ use Rattle.sc_time.specs.declared.fault.TimeFault.{TimeFault}
 use Rattle.sc_time.specs.declared.fault.TimeFault.TheVariants.{BadForm, BadDate, OutOfRange, Backwards}
 use Rattle.sc_time.specs.Calendar.{is_date, day_number}
 use Rattle.sc_time.specs.Instant.{is_instant, midnight}
+use Rattle.std.specs.List.{position}
+use Rattle.sc_time.specs.Ends.{Ends, are_ordered}
 use Rattle.sc_time.specs.Form.{date_form, date_time_form}
 
 -- the date is in the calendar
@@ -66,3 +68,36 @@ instant_of_date (Some date) = if is_calendar_date date then Ok (midnight (day_of
 -- a date as midnight UTC
 unfoldable pub date_reading : List ℕ → Result ℤ TimeFault
 date_reading text = instant_of_date (date_form text)
+
+-- a text that stands for an open end: it is empty, or two points
+abbrev pub is_open_end : List ℕ → Bool
+is_open_end [] = true
+is_open_end (first ∷ []) = false
+is_open_end (first ∷ second ∷ []) = (first == 46) && (second == 46)
+is_open_end (first ∷ second ∷ third ∷ rest) = false
+
+abbrev pub closed_end : Result ℤ TimeFault → Result (Option ℤ) TimeFault
+closed_end (Err fault) = Err fault
+closed_end (Ok at) = Ok (Some at)
+
+-- one end of a range
+unfoldable pub end_reading : List ℕ → Result (Option ℤ) TimeFault
+end_reading text = if is_open_end text then Ok None else closed_end (instant_reading text)
+
+-- the range of two ends, or the fault of the left end, else that of the right one, else that they stand the wrong way round
+abbrev pub range_of_ends : Result (Option ℤ) TimeFault → Result (Option ℤ) TimeFault → Result Ends TimeFault
+range_of_ends (Err fault) right = Err fault
+range_of_ends (Ok from) (Err fault) = Err fault
+range_of_ends (Ok from) (Ok to) = if are_ordered from to then Ok (record { from = from; to = to }) else Err Backwards
+
+abbrev pub range_of_instant : Result ℤ TimeFault → Result Ends TimeFault
+range_of_instant (Err fault) = Err fault
+range_of_instant (Ok at) = Ok (record { from = Some at; to = Some at })
+
+abbrev pub range_cut_at : Option ℕ → List ℕ → Result Ends TimeFault
+range_cut_at None text = range_of_instant (instant_reading text)
+range_cut_at (Some slash) text = range_of_ends (end_reading (take slash text)) (end_reading (drop (slash + 1) text))
+
+-- two ends round the first slash, or one date-time that is both
+unfoldable pub range_reading : List ℕ → Result Ends TimeFault
+range_reading text = range_cut_at (position (λ byte. byte == 47) text) text

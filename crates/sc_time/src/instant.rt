@@ -1,5 +1,5 @@
 ghost use Rattle.std.specs.Prelude.{◌≡◌, SomeIff};
-ghost use Rattle.sc_time.specs.Instant.{IsInstant};
+ghost use Rattle.sc_time.specs.Instant.{IsDayNumber, IsInstant, midnight};
 
 use std::marker::Model;
 
@@ -8,6 +8,8 @@ const FIRST: i128 = -62_167_219_200_000_000_000;
 
 /// The first nanosecond after the year 9999.
 const END: i128 = 253_402_300_800_000_000_000;
+
+const NANOSECONDS_OF_DAY: i128 = 86_400_000_000_000;
 
 /// A point in time, in nanoseconds from 1970-01-01T00:00:00Z, in the years 0000 to 9999 of UTC. Contracts see
 /// it as that number. Every day has 86,400 seconds.
@@ -48,5 +50,15 @@ impl Instant {
         ensures range { IsInstant self }
     {
         self.nanoseconds
+    }
+
+    /// Midnight in UTC at the beginning of a day, which is given by its number: 0 for 1 January 1970.
+    pub(crate) fn at_midnight(day: i32) -> Instant
+        requires { IsDayNumber day }
+        ensures { result ≡ midnight day }
+    {
+        Instant {
+            nanoseconds: day as i128 * NANOSECONDS_OF_DAY,
+        }
     }
 }

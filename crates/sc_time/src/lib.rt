@@ -4,7 +4,10 @@
 mod fault;
 mod form;
 mod instant;
+mod range;
 mod read;
 
 pub use fault::TimeFault;
 pub use instant::Instant;
+pub use range::Range;
+pub use read::{read_date, read_instant, read_range};
