@@ -17,10 +17,13 @@ use Rattle.sc_time.specs.Calendar.{is_leap_year, is_date, IsDate, days_of_year, 
 pub days_of_year-leap_day : (year : ℕ) → days_of_year year ≡ 365 + leap_day (pos year)
 days_of_year-leap_day year = grind arith
 
+pub days_of_year_same : (year : ℕ) → days_of_year year ≡ jiff.days_in_year (pos year)
+days_of_year_same year = refl
+
 pub days_of_month_same : (year month : ℕ) → days_of_month year month ≡ jiff.days_in_month (pos year) month
 days_of_month_same year month = refl
 
-days_of_months_same : (year months : ℕ) → days_of_months year months ≡ jiff.days_of_months (pos year) months
+pub days_of_months_same : (year months : ℕ) → days_of_months year months ≡ jiff.days_of_months (pos year) months
 unfolding days_of_months jiff.days_of_months
 days_of_months_same year zero = refl
 days_of_months_same year (suc months) = ap (λ days. days + days_of_month year (suc months)) (days_of_months_same year months)

@@ -3,3 +3,4 @@ pub mod Ends
 pub mod Form
 pub mod Instant
 pub mod Reading
+pub mod Written
