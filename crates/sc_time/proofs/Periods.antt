@@ -3,16 +3,17 @@ use Rattle.std.proofs.Common.{◌≡◌, ℕ, zero, suc, ◌+◌, ◌-◌, ◌*�
 use Rattle.std.proofs.lemmas.Int.{by_lt_z}
 use Rattle.std.proofs.lemmas.Bool.{cases_lt}
 use Rattle.jiff_core.proofs.SignedLemmas.{signed_arith}
-use Rattle.jiff_core.proofs.CalendarLemmas.{day_count-epoch, day_count-lt_year, days_from_civil-day_count, day_of_year_before, days_of_months_all, days_of_months_more}
+use Rattle.jiff_core.proofs.CalendarLemmas.{day_count-end, days_in_month_bounds, day_count-lt_year, days_from_civil-day_count, day_of_year_before, days_of_months_all, days_of_months_more}
 use Rattle.jiff_core.proofs.MarchLemmas.{day_count-early}
 use Rattle.jiff_core.proofs.DateLemmas.{civil}
 use Rattle.jiff_core.specs.Calendar as jiff
 use Rattle.jiff_core.specs.Date.{epoch_day as jiff_day}
 use Rattle.jiff_core.specs.declared.civil.date.Date.{Date}
+use Rattle.std.specs.Int.{IsInRange}
 use borrow.Author.Differences.{up, down}
 use Rattle.sc_time.specs.Calendar.{IsDate, days_of_year, days_of_month, days_before_year, days_of_months, days_before_date, day_number}
 use Rattle.sc_time.specs.Instant.{midnight, year_start, month_start, month_key, IsInYear, IsInMonth}
-use Rattle.sc_time.proofs.Calendars.{days_of_months_same, days_of_year_same, day_number-parts}
+use Rattle.sc_time.proofs.Calendars.{days_of_months_same, days_of_year_same, day_number-parts, days_before_epoch, day_number-days_from_civil}
 
 -- the library's year of a day from 1 January of the year 0 on
 pub year_not_negative : (date : Date) → neg_ℤ (pos 719_528) ≤ℤ jiff_day date → pos 0 ≤ℤ date.year
@@ -125,3 +126,74 @@ in_month year month day nanoseconds at (months, days) within is =
     record {
       begun = rw (month_start-key year month months.0 months.1) (omega (arith, signed_arith, date_parts year month day, date_parts year month 1));
       not_over = rw (next_month year month months.0 months.1) (omega (arith, signed_arith, date_parts year month day, date_parts year month 1)) }
+
+-- months follow one another
+month_start-suc : (key : ℕ) → month_start key ≤ℤ month_start (key + 1)
+month_start-suc key =
+    let first : 1 ≤ key % 12 + 1 = omega arith in
+    let last : key % 12 + 1 ≤ 12 = omega arith in
+    let here : month_key (key / 12) (key % 12 + 1) ≡ key = omega arith in
+    let next = rw here at (next_month (key / 12) (key % 12 + 1) first last) in
+    let start = rw here at (month_start-key (key / 12) (key % 12 + 1) first last) in
+    rw (next, start) (omega (arith, signed_arith))
+
+month_before : (key more : ℕ) → month_start key ≤ℤ month_start (more + key)
+month_before key zero = let none : 0 + key ≡ key = omega arith in rw none (omega (arith, signed_arith))
+month_before key (suc more) =
+    let next : suc more + key ≡ more + key + 1 = omega arith in
+    let before = month_before key more in
+    let step = month_start-suc (more + key) in
+    rw next (omega (arith, signed_arith))
+
+month_not_later : (key other : ℕ) (at : ℤ) → IsInMonth key at → IsInMonth other at → key ≤ other
+month_not_later key other at here there =
+    elim (cases_lt key (other + 1)) [
+      inl early ↦ omega arith
+    | inr late ↦
+      let same : key - (other + 1) + (other + 1) ≡ key = omega arith in
+      let order = rw same at (month_before (other + 1) (key - (other + 1))) in
+      let begun = here.begun in
+      let over = there.not_over in
+      absurd (omega (arith, signed_arith)) ]
+
+-- an instant lies in one month
+pub same_month : (key other : ℕ) (at : ℤ) → IsInMonth key at → IsInMonth other at → key ≡ other
+same_month key other at here there =
+    omega (arith, month_not_later key other at here there, month_not_later other key at there here)
+
+-- the bounds of all years
+pub first_year : year_start 0 ≡ neg_ℤ (pos 62_167_219_200_000_000_000)
+first_year = let none : days_before_year 0 ≡ 0 = unfold days_before_year in refl in omega (arith, signed_arith, year_start-parts 0)
+
+year_start_is : (year : ℕ) → year_start year ≡ midnight (day_number year 1 1)
+unfolding year_start
+year_start_is year = refl
+
+pub end_of_years : year_start 10000 ≡ pos 253_402_300_800_000_000_000
+end_of_years =
+    let here = day_number-days_from_civil 10000 1 1 (omega arith) in
+    let count = days_from_civil-day_count (pos 10000) 1 1 in
+    let start = year_start_is 10000 in
+    omega (arith, signed_arith, day_count-end)
+
+-- the days follow one another
+pub epoch_day_zero : day_number 1970 1 1 ≡ pos 0
+epoch_day_zero = omega (arith, signed_arith, day_number-parts 1970 1 1, days_before_epoch)
+
+pub next_day : (year month day : ℕ) → 1 ≤ day → day_number year month (day + 1) ≡ day_number year month day +ℤ pos 1
+next_day year month day first =
+    omega (arith, signed_arith, day_number-parts year month day, day_number-parts year month (day + 1), date_parts year month day, date_parts year month (day + 1))
+
+pub first_of_next_month : (year month : ℕ) → IsInRange 1 11 month → day_number year (month + 1) 1 ≡ day_number year month (days_of_month year month) +ℤ pos 1
+first_of_next_month year month (first, last) =
+    let back : month + 1 - 1 ≡ month = omega arith in
+    let next = rw back at (date_parts year (month + 1) 1) in
+    let some = (days_in_month_bounds (pos year) month).1 in
+    omega (arith, signed_arith, day_number-parts year month (days_of_month year month), day_number-parts year (month + 1) 1, date_parts year month (days_of_month year month), next, month_after year month first)
+
+pub first_of_next_year : (year : ℕ) → day_number (year + 1) 1 1 ≡ day_number year 12 31 +ℤ pos 1
+first_of_next_year year =
+    omega (arith, signed_arith, day_number-parts year 12 31, day_number-parts (year + 1) 1 1, date_parts year 12 31, first_of_year (year + 1), year_after year, month_after year 12 (omega arith), year_ends year)
+
+pub january_start : (year : ℕ) → month_start (month_key year 1) ≡ year_start year
+january_start year = month_start-key year 1 (omega arith) (omega arith) ∙ sym (year_start_is year)

@@ -5,6 +5,7 @@ mod civil;
 mod fault;
 mod form;
 mod instant;
+pub mod laws;
 mod range;
 mod read;
 mod write;
