@@ -1,16 +1,15 @@
 -- The text of an instant is read back as the instant.
-use Rattle.std.proofs.Common.{◌≡◌, ℕ, ◌+◌, ◌<◌, ◌≤◌, ◌≢◌, Bool, true, false, cond, ◌&&◌, List, [], ◌∷◌, ◌++◌, Option, Some, None, Ok, refl, sym, ap, ◌∙◌, arith, append_assoc, nat_eq, ℤ}
+use Rattle.std.proofs.Common.{◌≡◌, ℕ, ◌<◌, Bool, true, false, cond, List, [], ◌∷◌, ◌++◌, Option, Some, None, Ok, refl, ◌∙◌, arith, append_assoc, nat_eq, ℤ}
 use Rattle.std.proofs.lemmas.Bool.Decides.{nat_tests}
 use Rattle.std.specs.Str.{IsAscii, IsUtf8, is_utf8}
 use Rattle.std.proofs.lemmas.Str.{IsAscii-append, IsUtf8-from_ascii, is_utf8-from_IsUtf8}
-use Rattle.std.specs.Int.{IsInRange}
 use Rattle.std.proofs.lemmas.Int.{ints}
 use Rattle.sc_time.specs.declared.form.DateFields.{DateFields}
 use Rattle.sc_time.specs.declared.form.ClockFields.{ClockFields}
 use Rattle.sc_time.specs.declared.form.DateTimeFields.{DateTimeFields}
-use Rattle.sc_time.specs.Form.{two_digits, two_digits_behind, four_digits, full_date, clock_time, fraction, offset, date_time_form}
+use Rattle.sc_time.specs.Form.{full_date, clock_time, fraction, offset, date_time_form}
 use Rattle.sc_time.specs.Instant.{IsInstant, is_instant}
-use Rattle.sc_time.specs.Reading.{is_date_time, instant_reading}
+use Rattle.sc_time.specs.Reading.{instant_reading}
 use Rattle.sc_time.specs.Written.{digits, date_text, clock_text, fraction_text, utc_text, IsFormOf}
 use Rattle.sc_time.proofs.Digits.{two_digits-digits, four_digits-digits, fraction_digits-digits, ascii_one, ascii_digits}
 use Rattle.sc_time.proofs.Forms.{fits_of}

@@ -1,5 +1,5 @@
 -- The day number is that of the date library, which counts its days from the year -10000 on.
-use Rattle.std.proofs.Common.{◌≡◌, ℕ, zero, suc, ◌+◌, ◌-◌, ◌*◌, ◌/◌, ◌%◌, ◌<◌, ◌≤◌, refl, sym, ap, ◌∙◌, arith, ℤ, pos, negsuc, neg_ℤ, ◌+ℤ◌, ◌-ℤ◌, ◌<ℤ◌, ◌≤ℤ◌, unsigned_abs, cond, true, Some, None}
+use Rattle.std.proofs.Common.{◌≡◌, ℕ, zero, suc, ◌+◌, ◌-◌, ◌≤◌, refl, sym, ap, ◌∙◌, arith, ℤ, pos, neg_ℤ, ◌≤ℤ◌, cond, true, Some, None}
 use Rattle.std.proofs.lemmas.Bool.Decides.{nat_tests}
 use Rattle.jiff_core.proofs.SignedLemmas.{signed_arith}
 use Rattle.jiff_core.proofs.MarchLemmas.{leap_day, days_of_years-suc, day_count-early}
@@ -12,7 +12,7 @@ use borrow.Author.Differences.{up, down}
 use Rattle.sc_time.specs.declared.form.DateFields.{DateFields}
 use Rattle.sc_time.specs.Instant.{IsDayNumber}
 use Rattle.sc_time.specs.Reading.{is_calendar_date, day_of_fields}
-use Rattle.sc_time.specs.Calendar.{is_leap_year, is_date, IsDate, days_of_year, days_of_month, days_before_year, days_of_months, days_before_date, day_number}
+use Rattle.sc_time.specs.Calendar.{is_date, IsDate, days_of_year, days_of_month, days_before_year, days_of_months, days_before_date, day_number}
 
 pub days_of_year-leap_day : (year : ℕ) → days_of_year year ≡ 365 + leap_day (pos year)
 days_of_year-leap_day year = grind arith
@@ -65,7 +65,7 @@ found_day date found day year_is month_is day_is is =
     let months : IsInRange 1 12 date.month = rw month_is at found.month_in in
     let days : IsInRange 1 (days_of_month date.year date.month) date.day = rw (year_is, month_is, day_is) at found.day_in in
     let number : day ≡ day_number date.year date.month date.day =
-        rw (year_is, month_is, day_is) at is ∙ sym (day_number-days_from_civil date.year date.month date.day days.0) in
+    rw (year_is, month_is, day_is) at is ∙ sym (day_number-days_from_civil date.year date.month date.day days.0) in
     rw (is_date-true date.year date.month date.day (months, days)) (ap Some number)
 
 -- 1 January 1970 is the day 719,528 of the calendar
@@ -86,5 +86,5 @@ day_number-first year month day = omega (arith, signed_arith, day_number-parts y
 pub found_range : (year : ℕ) (found : Date) (day : ℤ) → found.year ≡ pos year → day ≡ jiff_day found → jiff.IsEpochDay day → IsDayNumber day
 found_range year found day year_is is (low, high) =
     let number : day ≡ day_number year found.month found.day =
-        rw year_is at is ∙ sym (day_number-days_from_civil year found.month found.day found.day_in.0) in
+    rw year_is at is ∙ sym (day_number-days_from_civil year found.month found.day found.day_in.0) in
     (rw number (day_number-first year found.month found.day), high)

@@ -1,23 +1,22 @@
 -- The date and time of an instant.
-use Rattle.std.proofs.Common.{◌≡◌, ℕ, ◌+◌, ◌*◌, ◌<◌, ◌≤◌, Bool, true, false, cond, ◌&&◌, refl, sym, ap, ◌∙◌, arith, ℤ, pos, neg_ℤ, ◌+ℤ◌, ◌-ℤ◌, ◌*ℤ◌, ◌≤ℤ◌, negsuc, unsigned_abs, w32, to_z}
+use Rattle.std.proofs.Common.{◌≡◌, ℕ, ◌+◌, ◌*◌, ◌<◌, Bool, true, false, ◌&&◌, refl, sym, arith, ℤ, pos, ◌+ℤ◌, ◌≤ℤ◌, negsuc, unsigned_abs, w32, to_z}
 use Rattle.std.proofs.lemmas.Bool.Decides.{nat_tests}
 use Rattle.jiff_core.proofs.SignedLemmas.{signed_arith}
-use Rattle.jiff_core.proofs.DateTimeLemmas.{civil_nanos-parts, time_nanos_bound}
+use Rattle.jiff_core.proofs.DateTimeLemmas.{civil_nanos-parts}
 use Rattle.jiff_core.specs.Calendar.{IsBetween}
 use Rattle.jiff_core.proofs.CalendarLemmas.{days_in_month_bounds}
 use Rattle.std.proofs.lemmas.Int.{ints}
 use Rattle.jiff_core.specs.Date.{epoch_day as jiff_day}
-use Rattle.jiff_core.specs.Time.{time_nanos}
 use Rattle.jiff_core.specs.DateTime.{civil_nanos}
 use Rattle.jiff_core.specs.declared.civil.datetime.DateTime.{DateTime}
 use Rattle.std.specs.Int.{IsInRange}
 use Rattle.sc_time.specs.declared.form.DateTimeFields.{DateTimeFields}
 use Rattle.sc_time.specs.Calendar.{IsDate, days_of_month, day_number}
 use Rattle.sc_time.specs.Instant.{IsInstant, midnight, month_key, IsInYear, IsInMonth}
-use Rattle.sc_time.specs.Reading.{is_calendar_date, is_clock_time, is_offset, is_date_time, seconds_of_clock, nanoseconds_of}
+use Rattle.sc_time.specs.Reading.{is_calendar_date, is_clock_time, is_offset, seconds_of_clock}
 use Rattle.sc_time.specs.Written.{IsFormOf}
 use Rattle.sc_time.proofs.Calendars.{is_date-true, IsDate-from_test, day_number-days_from_civil}
-use Rattle.sc_time.proofs.Periods.{year_not_negative, in_year, in_month, same_year}
+use Rattle.sc_time.proofs.Periods.{in_year, in_month, same_year}
 
 both : (a b : Bool) → (a && b) ≡ true → (a ≡ true) × (b ≡ true)
 both true true e = (refl, refl)
@@ -36,15 +35,16 @@ form_found at found year (low, high) is year_is =
     let months : IsInRange 1 12 found.date.month = found.date.month_in in
     let days : IsInRange 1 (days_of_month year found.date.month) found.date.day = rw year_is at found.date.day_in in
     let number : jiff_day found.date ≡ day_number year found.date.month found.date.day =
-        rw year_is (sym (day_number-days_from_civil year found.date.month found.date.day days.0)) in
+    rw year_is (sym (day_number-days_from_civil year found.date.month found.date.day days.0)) in
     let bounds = found.date.year_in in
     record {
       utc = refl;
       in_range = rw (is_date-true year found.date.month found.date.day (months, days))
-        (in_day found.time.hour found.time.minute found.time.second found.time.hour_in found.time.minute_in found.time.second_in);
+          (in_day found.time.hour found.time.minute found.time.second found.time.hour_in found.time.minute_in found.time.second_in);
       year = omega (arith, signed_arith);
       fraction = found.time.subsec_in;
-      instant = omega (arith, signed_arith, number, is, civil_nanos-parts found) }
+      instant = omega (arith, signed_arith, number, is, civil_nanos-parts found);
+    }
 
 -- the date, and the time of day in nanoseconds
 record IsDayAndTime (at : ℤ) (form : DateTimeFields) : Type 0 where
@@ -62,7 +62,8 @@ day_and_time at form is =
     record {
       date = IsDate-from_test form.date.year form.date.month form.date.day tests.0;
       within = omega arith;
-      parts = omega (arith, signed_arith, instant) }
+      parts = omega (arith, signed_arith, instant);
+    }
 
 pub form_in_year : (at : ℤ) (form : DateTimeFields) → IsFormOf at form → IsInYear form.date.year at
 form_in_year at form is =

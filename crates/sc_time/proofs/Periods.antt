@@ -1,16 +1,14 @@
 -- Which year and month an instant lies in.
-use Rattle.std.proofs.Common.{◌≡◌, ℕ, zero, suc, ◌+◌, ◌-◌, ◌*◌, ◌/◌, ◌%◌, ◌<◌, ◌≤◌, ◌⊎◌, inl, inr, refl, sym, ap, ◌∙◌, arith, ℤ, pos, negsuc, neg_ℤ, ◌+ℤ◌, ◌-ℤ◌, ◌*ℤ◌, ◌<ℤ◌, ◌≤ℤ◌, unsigned_abs}
+use Rattle.std.proofs.Common.{◌≡◌, ℕ, zero, suc, ◌+◌, ◌-◌, ◌/◌, ◌%◌, ◌<◌, ◌≤◌, inl, inr, refl, sym, ◌∙◌, arith, ℤ, pos, neg_ℤ, ◌+ℤ◌, ◌-ℤ◌, ◌*ℤ◌, ◌≤ℤ◌}
 use Rattle.std.proofs.lemmas.Int.{by_lt_z}
 use Rattle.std.proofs.lemmas.Bool.{cases_lt}
 use Rattle.jiff_core.proofs.SignedLemmas.{signed_arith}
 use Rattle.jiff_core.proofs.CalendarLemmas.{day_count-end, days_in_month_bounds, day_count-lt_year, days_from_civil-day_count, day_of_year_before, days_of_months_all, days_of_months_more}
 use Rattle.jiff_core.proofs.MarchLemmas.{day_count-early}
 use Rattle.jiff_core.proofs.DateLemmas.{civil}
-use Rattle.jiff_core.specs.Calendar as jiff
 use Rattle.jiff_core.specs.Date.{epoch_day as jiff_day}
 use Rattle.jiff_core.specs.declared.civil.date.Date.{Date}
 use Rattle.std.specs.Int.{IsInRange}
-use borrow.Author.Differences.{up, down}
 use Rattle.sc_time.specs.Calendar.{IsDate, days_of_year, days_of_month, days_before_year, days_of_months, days_before_date, day_number}
 use Rattle.sc_time.specs.Instant.{midnight, year_start, month_start, month_key, IsInYear, IsInMonth}
 use Rattle.sc_time.proofs.Calendars.{days_of_months_same, days_of_year_same, day_number-parts, days_before_epoch, day_number-days_from_civil}
@@ -57,7 +55,8 @@ in_year year month day nanoseconds at date within is =
     let inside = month_within year month day date in
     record {
       begun = omega (arith, signed_arith, date_parts year month day, first_of_year year);
-      not_over = omega (arith, signed_arith, date_parts year month day, first_of_year (year + 1), year_after year) }
+      not_over = omega (arith, signed_arith, date_parts year month day, first_of_year (year + 1), year_after year);
+    }
 
 -- the number of a month gives its year and its place in it
 pub key_year : (year month : ℕ) → 1 ≤ month → month ≤ 12 → month_key year month / 12 ≡ year
@@ -84,13 +83,14 @@ year_start-parts year = omega (arith, signed_arith, day_number-parts year 1 1, f
 year_not_later : (year other : ℕ) (at : ℤ) → IsInYear year at → IsInYear other at → year ≤ other
 year_not_later year other at here there =
     elim (cases_lt year (other + 1)) [
-      inl early ↦ omega arith
-    | inr late ↦
-      let same : year - (other + 1) + (other + 1) ≡ year = omega arith in
-      let order = rw same at (year_before (other + 1) (year - (other + 1))) in
-      let begun = here.begun in
-      let over = there.not_over in
-      absurd (omega (arith, signed_arith, year_start-parts year, year_start-parts (other + 1))) ]
+      | inl early ↦ omega arith
+      | inr late ↦
+          let same : year - (other + 1) + (other + 1) ≡ year = omega arith in
+          let order = rw same at (year_before (other + 1) (year - (other + 1))) in
+          let begun = here.begun in
+          let over = there.not_over in
+          absurd (omega (arith, signed_arith, year_start-parts year, year_start-parts (other + 1)))
+    ]
 
 -- an instant lies in one year
 pub same_year : (year other : ℕ) (at : ℤ) → IsInYear year at → IsInYear other at → year ≡ other
@@ -107,16 +107,17 @@ month_key-december year = omega arith
 next_month : (year month : ℕ) → 1 ≤ month → month ≤ 12 → month_start (month_key year month + 1) ≡ midnight (day_number year month 1 +ℤ pos (days_of_month year month))
 next_month year month first last =
     elim (cases_lt month 12) [
-      inl early ↦
-      let back : month + 1 - 1 ≡ month = omega arith in
-      let next = rw back at (date_parts year (month + 1) 1) in
-      rw (month_key-next year month first early, month_start-key year (month + 1) (omega arith) (omega arith))
-      (omega (arith, signed_arith, day_number-parts year month 1, day_number-parts year (month + 1) 1, date_parts year month 1, next, month_after year month first))
-    | inr late ↦
-      let december : month ≡ 12 = omega arith in
-      rw december
-      (rw (month_key-december year, month_start-key (year + 1) 1 (omega arith) (omega arith))
-      (omega (arith, signed_arith, day_number-parts year 12 1, day_number-parts (year + 1) 1 1, date_parts year 12 1, first_of_year (year + 1), year_after year, month_after year 12 (omega arith), year_ends year))) ]
+      | inl early ↦
+          let back : month + 1 - 1 ≡ month = omega arith in
+          let next = rw back at (date_parts year (month + 1) 1) in
+          rw (month_key-next year month first early, month_start-key year (month + 1) (omega arith) (omega arith))
+          (omega (arith, signed_arith, day_number-parts year month 1, day_number-parts year (month + 1) 1, date_parts year month 1, next, month_after year month first))
+      | inr late ↦
+          let december : month ≡ 12 = omega arith in
+          rw december
+          (rw (month_key-december year, month_start-key (year + 1) 1 (omega arith) (omega arith))
+          (omega (arith, signed_arith, day_number-parts year 12 1, day_number-parts (year + 1) 1 1, date_parts year 12 1, first_of_year (year + 1), year_after year, month_after year 12 (omega arith), year_ends year)))
+    ]
 
 -- the date of an instant lies in its month
 pub in_month : (year month day nanoseconds : ℕ) (at : ℤ) → IsDate year month day → nanoseconds < 86_400_000_000_000 → at ≡ midnight (day_number year month day) +ℤ pos nanoseconds → IsInMonth (month_key year month) at
@@ -125,7 +126,8 @@ in_month year month day nanoseconds at (months, days) within is =
     let first = day_number-parts year month 1 in
     record {
       begun = rw (month_start-key year month months.0 months.1) (omega (arith, signed_arith, date_parts year month day, date_parts year month 1));
-      not_over = rw (next_month year month months.0 months.1) (omega (arith, signed_arith, date_parts year month day, date_parts year month 1)) }
+      not_over = rw (next_month year month months.0 months.1) (omega (arith, signed_arith, date_parts year month day, date_parts year month 1));
+    }
 
 -- months follow one another
 month_start-suc : (key : ℕ) → month_start key ≤ℤ month_start (key + 1)
@@ -148,13 +150,14 @@ month_before key (suc more) =
 month_not_later : (key other : ℕ) (at : ℤ) → IsInMonth key at → IsInMonth other at → key ≤ other
 month_not_later key other at here there =
     elim (cases_lt key (other + 1)) [
-      inl early ↦ omega arith
-    | inr late ↦
-      let same : key - (other + 1) + (other + 1) ≡ key = omega arith in
-      let order = rw same at (month_before (other + 1) (key - (other + 1))) in
-      let begun = here.begun in
-      let over = there.not_over in
-      absurd (omega (arith, signed_arith)) ]
+      | inl early ↦ omega arith
+      | inr late ↦
+          let same : key - (other + 1) + (other + 1) ≡ key = omega arith in
+          let order = rw same at (month_before (other + 1) (key - (other + 1))) in
+          let begun = here.begun in
+          let over = there.not_over in
+          absurd (omega (arith, signed_arith))
+    ]
 
 -- an instant lies in one month
 pub same_month : (key other : ℕ) (at : ℤ) → IsInMonth key at → IsInMonth other at → key ≡ other

@@ -1,5 +1,5 @@
 -- From the steps of reading a date-time to what it reads as.
-use Rattle.std.proofs.Common.{◌≡◌, ℕ, ◌+◌, ◌*◌, Bool, true, false, cond, ◌&&◌, List, Option, Some, None, Result, Ok, Err, refl, sym, ap, ◌∙◌, arith, ℤ, pos, ◌+ℤ◌, ◌-ℤ◌, ◌*ℤ◌}
+use Rattle.std.proofs.Common.{◌≡◌, ℕ, Bool, true, false, cond, ◌&&◌, List, Some, None, Result, Ok, Err, refl, ℤ, pos, ◌+ℤ◌, ◌-ℤ◌, ◌*ℤ◌}
 use Rattle.sc_time.specs.declared.form.DateTimeFields.{DateTimeFields}
 use Rattle.sc_time.specs.declared.fault.TimeFault.{TimeFault}
 use Rattle.sc_time.specs.declared.fault.TimeFault.TheVariants.{OutOfRange}

@@ -1,5 +1,5 @@
 -- The two ends of a range of time, in nanoseconds. They belong to the range; an end that is missing is open (RFC 3339 date-times round a `/`, with `..` or nothing for an open end).
-use Rattle.std.specs.Prelude.{Bool, true, Option, Some, None, ℤ, ◌≤ℤ◌, int_le}
+use Rattle.std.specs.Prelude.{Bool, true, Option, Some, None, ℤ, int_le}
 
 pub record Ends : Type 0 where
   pub from : Option ℤ

@@ -95,7 +95,14 @@ fn clock_time_of(text: &[u8]) -> Option<(ClockFields, &[u8])>
             let (hour, rest) = two_digits_of(rest)?;
             let (minute, rest) = two_digits_behind_of(b':', rest)?;
             let (second, rest) = two_digits_behind_of(b':', rest)?;
-            Some((ClockFields { hour, minute, second }, rest))
+            Some((
+                ClockFields {
+                    hour,
+                    minute,
+                    second,
+                },
+                rest,
+            ))
         }
         _ => None,
     }

@@ -1,4 +1,4 @@
-use Rattle.std.proofs.Common.{arith, ◌≡◌, ◌≤ℤ◌, ◌∙◌, pos, neg_ℤ, FitsSigned, to_z-of_z}
+use Rattle.std.proofs.Common.{arith, ◌≡◌, ◌≤ℤ◌, pos, neg_ℤ, FitsSigned, to_z-of_z}
 use Rattle.std.specs.Int.{w128}
 use Rattle.jiff_core.proofs.SignedLemmas.{signed_arith}
 use Rattle.jiff_core.proofs.DateTimeLemmas.{civil_nanos-parts, time_nanos_bound}
@@ -14,5 +14,5 @@ returns-clause-year c =
     let fits : FitsSigned w128 c.nanoseconds.result = omega (arith, signed_arith) in
     let found : civil_nanos c.from_nanosecond_in_range.result ≡ c.nanoseconds.result = rw (to_z-of_z fits) at c.from_nanosecond_in_range.ensures in
     let low : neg_ℤ (pos 719_528) ≤ℤ epoch_day c.from_nanosecond_in_range.result.date =
-        omega (arith, signed_arith, civil_nanos-parts c.from_nanosecond_in_range.result, time_nanos_bound c.from_nanosecond_in_range.result.time) in
+    omega (arith, signed_arith, civil_nanos-parts c.from_nanosecond_in_range.result, time_nanos_bound c.from_nanosecond_in_range.result.time) in
     year_not_negative c.from_nanosecond_in_range.result.date low

@@ -1,4 +1,4 @@
-use Rattle.std.proofs.Common.{arith, ◌≡◌, ℕ, pos, unsigned_abs, FitsSigned, w16, of_z, to_z, to_z-of_z}
+use Rattle.std.proofs.Common.{arith, ◌≡◌, pos, unsigned_abs, FitsSigned, w16, of_z, to_z, to_z-of_z}
 use Rattle.jiff_core.proofs.SignedLemmas.{signed_arith}
 use Rattle.sc_time.proofs.Forms.{form_found, nonnegative}
 use Rattle.sc_time.proofs.civil.form_of.Goals as goal
@@ -9,5 +9,5 @@ returns-clause-form c =
     let bounds = c.date_time_at-civil.result.date.year_in in
     let fits : FitsSigned w16 c.date_time_at-civil.result.date.year = omega (arith, signed_arith) in
     let year : c.date_time_at-civil.result.date.year ≡ pos (unsigned_abs (to_z w16 (of_z w16 c.date_time_at-civil.result.date.year))) =
-        rw (to_z-of_z fits) (nonnegative c.date_time_at-civil.result.date.year positive) in
+    rw (to_z-of_z fits) (nonnegative c.date_time_at-civil.result.date.year positive) in
     form_found c.args.at c.date_time_at-civil.result _ c.date_time_at-civil.ensures.range c.date_time_at-civil.ensures.instant year

@@ -1,4 +1,4 @@
-use Rattle.std.proofs.Common.{rules, arith, ◌≡◌, ◌<◌, ◌≤◌, ◌-◌, true, get_or, sym, ◌∙◌}
+use Rattle.std.proofs.Common.{arith, ◌≡◌, true, get_or, sym, ◌∙◌}
 use Rattle.std.proofs.lemmas.List.Sums.{prefix_len-drop_yes}
 use Rattle.std.specs.Char.{is_ascii_digit}
 use Rattle.sc_time.proofs.Fractions.{one_more_below, room_for_more, scaled_below, digit_below, number_more}
@@ -25,7 +25,8 @@ digits-preserved c =
       within = omega arith;
       passed = omega (arith, prefix_len-drop_yes is_ascii_digit c.args.text.now c.digits.count 0 (omega arith) is, c.digits.invariant.passed);
       small = one_more_below c.digits.value c.digits.count _ c.digits.invariant.small digit.1;
-      number = number_more c.args.text.now c.digits.count c.digits.value (omega arith) is c.digits.invariant.number }
+      number = number_more c.args.text.now c.digits.count c.digits.value (omega arith) is c.digits.invariant.number;
+    }
 
 pub overflow_mul-result : goal.overflow_mul-result
 overflow_mul-result c =

@@ -10,7 +10,8 @@ invariant-digits l = record {
   within : l.count ≤ length l.text;
   passed : prefix_len is_ascii_digit (drop l.count l.text) + l.count ≡ prefix_len is_ascii_digit l.text;
   small : l.value < 10 ^ l.count;
-  number : l.value ≡ digits_value 10 (take l.count l.text) }
+  number : l.value ≡ digits_value 10 (take l.count l.text);
+}
 
 abbrev pub decreases-digits : goal.decreases-digits
 decreases-digits l = length l.initial.text - l.count

@@ -1,4 +1,4 @@
-use Rattle.std.proofs.Common.{arith, ◌≡◌}
+use Rattle.std.proofs.Common.{arith}
 use Rattle.jiff_core.proofs.SignedLemmas.{signed_casts}
 use Rattle.sc_time.proofs.read.seconds_of.Goals as goal
 

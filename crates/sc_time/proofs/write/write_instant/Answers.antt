@@ -1,6 +1,5 @@
-use Rattle.std.proofs.Common.{◌≡◌, List, ℕ, Option, Some, None, Ok, sym, ◌∙◌, ap}
+use Rattle.std.proofs.Common.{◌≡◌}
 use Rattle.std.specs.Str.{IsUtf8}
-use Rattle.sc_time.specs.Reading.{instant_reading}
 use Rattle.sc_time.specs.Written.{utc_text}
 use Rattle.sc_time.proofs.Back.{read_back, utf8_text, not_none}
 use Rattle.sc_time.proofs.write.write_instant.Goals as goal
