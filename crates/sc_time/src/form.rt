@@ -36,6 +36,7 @@ pub struct DateTimeFields {
 }
 
 /// Two digits at the front, and what stands behind them.
+#[inline(always)]
 fn two_digits_of(text: &[u8]) -> Option<(u8, &[u8])>
     ensures value { MatchOption result (two_digits text.now ≡ None) (λ front. two_digits text.now ≡ Some (front.0, front.1.now)) }
     ensures bound { MatchOption result (Unit {0}) (λ front. front.0 < 100) }
@@ -53,6 +54,7 @@ fn two_digits_of(text: &[u8]) -> Option<(u8, &[u8])>
 }
 
 /// Two digits behind a mark at the front, and what stands behind them.
+#[inline(always)]
 fn two_digits_behind_of<'a>(mark: u8, text: &'a [u8]) -> Option<(u8, &'a [u8])>
     ensures value { MatchOption result (two_digits_behind mark text.now ≡ None) (λ front. two_digits_behind mark text.now ≡ Some (front.0, front.1.now)) }
     ensures bound { MatchOption result (Unit {0}) (λ front. front.0 < 100) }
@@ -64,6 +66,7 @@ fn two_digits_behind_of<'a>(mark: u8, text: &'a [u8]) -> Option<(u8, &'a [u8])>
 }
 
 /// Four digits at the front, and what stands behind them.
+#[inline(always)]
 fn four_digits_of(text: &[u8]) -> Option<(u16, &[u8])>
     ensures value { MatchOption result (four_digits text.now ≡ None) (λ front. four_digits text.now ≡ Some (front.0, front.1.now)) }
     ensures bound { MatchOption result (Unit {0}) (λ front. front.0 < 10000) }
@@ -75,6 +78,7 @@ fn four_digits_of(text: &[u8]) -> Option<(u16, &[u8])>
 
 /// A `full-date` at the front, and what stands behind it.
 #[tactic(auto, unfolding(crate::specs::Form::full_date))]
+#[inline(always)]
 fn full_date_of(text: &[u8]) -> Option<(DateFields, &[u8])>
     ensures value { MatchOption result (full_date text.now ≡ None) (λ front. full_date text.now ≡ Some (front.0, front.1.now)) }
     ensures bound { MatchOption result (Unit {0}) (λ front. FitDigits front.0) }
@@ -87,6 +91,7 @@ fn full_date_of(text: &[u8]) -> Option<(DateFields, &[u8])>
 
 /// A clock's time behind its `T` at the front, and what stands behind it.
 #[tactic(auto, unfolding(crate::specs::Form::clock_time))]
+#[inline(always)]
 fn clock_time_of(text: &[u8]) -> Option<(ClockFields, &[u8])>
     ensures { MatchOption result (clock_time text.now ≡ None) (λ front. clock_time text.now ≡ Some (front.0, front.1.now)) }
 {
@@ -109,6 +114,7 @@ fn clock_time_of(text: &[u8]) -> Option<(ClockFields, &[u8])>
 }
 
 /// An offset behind its sign, where the text ends with it.
+#[inline(always)]
 fn offset_behind_sign_of(west: bool, text: &[u8]) -> Option<OffsetFields>
     ensures { result ≡ offset_behind_sign west text.now }
 {
@@ -123,6 +129,7 @@ fn offset_behind_sign_of(west: bool, text: &[u8]) -> Option<OffsetFields>
 
 /// An offset, where the text ends with it.
 #[tactic(auto, unfolding(crate::specs::Form::offset))]
+#[inline(always)]
 fn offset_of(text: &[u8]) -> Option<OffsetFields>
     ensures { result ≡ offset text.now }
 {
@@ -149,6 +156,7 @@ pub fn date_of(text: &[u8]) -> Option<DateFields>
 }
 
 /// A power of ten.
+#[inline(always)]
 fn power_of_ten(exponent: usize) -> u32
     requires { exponent < 10 }
     ensures value { result ≡ 10 ^ exponent }
@@ -169,6 +177,7 @@ fn power_of_ten(exponent: usize) -> u32
 
 /// The nanoseconds of the 1 to 9 digits at the front, and what stands behind them.
 #[tactic(auto, unfolding(crate::specs::Form::fraction_digits))]
+#[inline(always)]
 fn fraction_digits_of(text: &[u8]) -> Option<(u32, &[u8])>
     ensures value { MatchOption result (fraction_digits text.now ≡ None) (λ front. fraction_digits text.now ≡ Some (front.0, front.1.now)) }
     ensures bound { MatchOption result (Unit {0}) (λ front. front.0 < 1_000_000_000) }
@@ -191,6 +200,7 @@ fn fraction_digits_of(text: &[u8]) -> Option<(u32, &[u8])>
 
 /// A fraction in nanoseconds at the front, which may be missing, and what stands behind it.
 #[tactic(auto, unfolding(crate::specs::Form::fraction))]
+#[inline(always)]
 fn fraction_of(text: &[u8]) -> Option<(u32, &[u8])>
     ensures value { MatchOption result (fraction text.now ≡ None) (λ front. fraction text.now ≡ Some (front.0, front.1.now)) }
     ensures bound { MatchOption result (Unit {0}) (λ front. front.0 < 1_000_000_000) }

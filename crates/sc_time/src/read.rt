@@ -12,6 +12,7 @@ use crate::range::Range;
 use jiff_core::civil::Date;
 
 /// The day number of a date, if the calendar has it.
+#[inline]
 fn day_of(date: DateFields) -> Option<i32>
     requires { FitDigits date }
     ensures value { result ≡ (if is_calendar_date date then Some (day_of_fields date) else None) }
@@ -24,6 +25,7 @@ fn day_of(date: DateFields) -> Option<i32>
 }
 
 /// Whether a time of day and an offset are in range.
+#[inline]
 fn is_time(clock: ClockFields, offset: OffsetFields) -> bool
     ensures { result ≡ (is_clock_time clock && is_offset offset) }
 {
@@ -35,6 +37,7 @@ fn is_time(clock: ClockFields, offset: OffsetFields) -> bool
 }
 
 /// Seconds since midnight.
+#[inline]
 fn seconds_of_clock_of(clock: ClockFields) -> u32
     ensures { result ≡ seconds_of_clock clock }
 {
@@ -42,6 +45,7 @@ fn seconds_of_clock_of(clock: ClockFields) -> u32
 }
 
 /// How many seconds the clock is ahead of UTC.
+#[inline]
 fn seconds_ahead_of(offset: OffsetFields) -> i32
     ensures value { result ≡ seconds_ahead offset }
     ensures bound { IsWithin 1_000_000 result }
@@ -51,6 +55,7 @@ fn seconds_ahead_of(offset: OffsetFields) -> i32
 }
 
 /// Seconds from 1970-01-01T00:00:00Z.
+#[inline]
 fn seconds_of(day: i32, clock: ClockFields, offset: OffsetFields) -> i64
     ensures value { result ≡ day *ℤ pos 86_400 +ℤ pos (seconds_of_clock clock) -ℤ seconds_ahead offset }
     ensures bound { IsWithin 200_000_000_000_000 result }
@@ -81,6 +86,7 @@ pub fn read_instant(text: &[u8]) -> Result<Instant, TimeFault>
 }
 
 /// The instant of whole seconds and a fraction.
+#[inline]
 fn instant_at(seconds: i64, nanosecond: u32) -> Result<Instant, TimeFault>
     requires { IsWithin 200_000_000_000_000 seconds }
     ensures { result ≡ (if is_instant (seconds *ℤ pos 1_000_000_000 +ℤ pos nanosecond) then Ok (seconds *ℤ pos 1_000_000_000 +ℤ pos nanosecond) else Err TimeFault.OutOfRange) }
