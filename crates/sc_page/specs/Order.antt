@@ -18,11 +18,13 @@ time_order =
     (then_cmp (on (λ c. c.hour) nat_cmp)
     (then_cmp (on (λ c. c.minute) nat_cmp) (on (λ c. c.second) nat_cmp)))))
 
--- the later time comes first, then the lesser collection, then the lesser id
+-- the lesser collection comes first, then the lesser id
+abbrev pub name_order : Item → Item → Ordering
+name_order = then_cmp (on (λ i. i.collection) text_order) (on (λ i. i.id) text_order)
+
+-- the later time comes first, then the lesser name
 abbrev pub default_order : Item → Item → Ordering
-default_order =
-    then_cmp (flip_args (on (λ i. i.time) time_order))
-    (then_cmp (on (λ i. i.collection) text_order) (on (λ i. i.id) text_order))
+default_order = then_cmp (flip_args (on (λ i. i.time) time_order)) name_order
 
 -- an order of items is total, and only items of one name tie in it
 pub record IsItemOrder (order : Item → Item → Ordering) : Type 0 where

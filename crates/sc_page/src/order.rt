@@ -1,6 +1,6 @@
 ghost use Rattle.std.specs.Prelude.{◌≡◌, IfOk};
 ghost use Rattle.sc_item.specs.Names.{AreApart};
-ghost use Rattle.sc_page.specs.Order.{time_order, default_order, IsListing};
+ghost use Rattle.sc_page.specs.Order.{time_order, name_order, default_order, IsListing};
 
 use sc_item::{DateTime, Item};
 use std::alloc::AllocError;
@@ -13,13 +13,27 @@ fn compare_times(a: &DateTime, b: &DateTime) -> Ordering
     a.cmp(b)
 }
 
+/// Which of two items has the lesser collection, or in one collection the lesser id.
+fn compare_names(a: &Item, b: &Item) -> Ordering
+    ensures { result ≡ name_order a.now b.now }
+{
+    match a.collection.cmp(&b.collection) {
+        Ordering::Less => Ordering::Less,
+        Ordering::Equal => a.id.cmp(&b.id),
+        Ordering::Greater => Ordering::Greater,
+    }
+}
+
 /// Which of two items stands first on a page: the later one, then the one of the lesser collection, then of the lesser id.
 pub fn compare_items(a: &Item, b: &Item) -> Ordering
     ensures { result ≡ default_order a.now b.now }
 {
-    compare_times(&b.time, &a.time)
-        .then(a.collection.cmp(&b.collection))
-        .then(a.id.cmp(&b.id))
+    // The names are compared only where the times are equal.
+    match compare_times(&b.time, &a.time) {
+        Ordering::Less => Ordering::Less,
+        Ordering::Equal => compare_names(a, b),
+        Ordering::Greater => Ordering::Greater,
+    }
 }
 
 /// The items in the order of a page.
