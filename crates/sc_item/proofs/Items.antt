@@ -1,12 +1,11 @@
 -- An item has one reading of its line.
-use Rattle.std.proofs.Common.{◌≡◌, ◌≢◌, ℕ, ◌+◌, ◌/◌, ◌%◌, ◌<◌, ◌≤◌, List, [], ◌∷◌, ◌++◌, length, refl, sym, ◌∙◌, ap, subst, arith, rules}
-use Rattle.std.specs.List.{All, AllByRecursion}
+use Rattle.std.proofs.Common.{◌≡◌, ◌≢◌, ℕ, ◌+◌, ◌/◌, ◌%◌, ◌<◌, List, sym, ◌∙◌, subst, arith, rules}
 use Rattle.std.proofs.lemmas.List.Elements.{All-from_recursion}
 use Rattle.sc_item.specs.declared.item.Item.{Item}
 use Rattle.sc_item.specs.declared.date_time.DateTime.{DateTime}
 use Rattle.sc_item.specs.Time.{IsTimeOf, time_text, two, four}
-use Rattle.sc_item.specs.Line.{HasNoQuote, line_text, IsRead}
-use Rattle.sc_item.specs.Item.{IsName, IsPlain, IsItem}
+use Rattle.sc_item.specs.Line.{HasNoQuote, IsRead}
+use Rattle.sc_item.specs.Item.{IsName, IsItem}
 use Rattle.sc_item.proofs.Lines.{one_reading}
 
 pub name_has_no_quote : (n : List ℕ) → IsName n → HasNoQuote n

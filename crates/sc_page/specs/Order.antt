@@ -1,5 +1,5 @@
 -- The order of a page, and the listing of items by an order.
-use Rattle.std.specs.Prelude.{◌≡◌, ℕ, List, AllPairs, IsPermutation}
+use Rattle.std.specs.Prelude.{◌≡◌, List, AllPairs, IsPermutation}
 use Rattle.std.specs.declared.cmp.Ordering.{Ordering}
 use Rattle.std.specs.declared.cmp.Ordering.TheVariants.{Less, Equal}
 use Rattle.std.specs.Ordering.{nat_cmp, then_cmp, flip_args, on}
