@@ -1,10 +1,9 @@
 -- How the call ends, by how reading ended.
-use Rattle.std.proofs.Common.{◌≡◌, ◌≢◌, ℕ, ◌+◌, ◌^◌, ◌<◌, ◌≤◌, Bool, true, false, cond, eqb, ltb, ◌||◌, List, [], ◌∷◌, ◌++◌, length, Some, None, refl, sym, ◌∙◌, ap, subst, arith}
+use Rattle.std.proofs.Common.{◌≡◌, ℕ, ◌^◌, ◌<◌, ◌≤◌, Bool, true, false, ltb, ◌||◌, List, [], ◌∷◌, ◌++◌, length, refl, sym, ◌∙◌, ap, subst, arith}
 use Rattle.std.specs.declared.option.Option.{Option}
-use Rattle.std.specs.List.{concat}
 use Rattle.std.proofs.lemmas.Bool.Decides.{nat_tests}
 use Rattle.sc_item.specs.declared.item.Item.{Item}
-use Rattle.sc_outside.specs.Lines.{lines_of, onto_first, lines_to_read}
+use Rattle.sc_outside.specs.Lines.{lines_to_read}
 use Rattle.sc_outside.proofs.Joined.{concat-lines_of}
 use Rattle.stacd.specs.Lines.{AreItems}
 use Rattle.sc_page.specs.Order.{default_order}

@@ -1,4 +1,4 @@
-use Rattle.std.proofs.Common.{◌≡◌, ◌+◌, length, arith}
+use Rattle.std.proofs.Common.{arith}
 use Rattle.stacd.proofs.Judging.{repeat_found, stop_is_bad}
 use Rattle.stacd.proofs.lines.judge.Goals as goal
 
