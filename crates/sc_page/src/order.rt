@@ -1,0 +1,47 @@
+ghost use Rattle.std.specs.Prelude.{◌≡◌, IfOk};
+ghost use Rattle.sc_item.specs.Names.{AreApart};
+ghost use Rattle.sc_page.specs.Order.{time_order, name_order, default_order, IsListing};
+
+use sc_item::{DateTime, Item};
+use std::alloc::AllocError;
+use std::cmp::Ordering;
+
+/// Which of two times is earlier.
+fn compare_times(a: &DateTime, b: &DateTime) -> Ordering
+    ensures { result ≡ time_order a.now b.now }
+{
+    a.cmp(b)
+}
+
+/// Which of two items has the lesser collection, or in one collection the lesser id.
+fn compare_names(a: &Item, b: &Item) -> Ordering
+    ensures { result ≡ name_order a.now b.now }
+{
+    match a.collection.cmp(&b.collection) {
+        Ordering::Less => Ordering::Less,
+        Ordering::Equal => a.id.cmp(&b.id),
+        Ordering::Greater => Ordering::Greater,
+    }
+}
+
+/// Which of two items stands first on a page: the later one, then the one of the lesser collection, then of the lesser id.
+pub fn compare_items(a: &Item, b: &Item) -> Ordering
+    ensures { result ≡ default_order a.now b.now }
+{
+    // The names are compared only where the times are equal.
+    match compare_times(&b.time, &a.time) {
+        Ordering::Less => Ordering::Less,
+        Ordering::Equal => compare_names(a, b),
+        Ordering::Greater => Ordering::Greater,
+    }
+}
+
+/// The items in the order of a page.
+pub(crate) fn listed(items: Vec<Item>) -> Result<Vec<Item>, AllocError>
+    requires { AreApart items.items }
+    ensures { IfOk result (λ listed. IsListing default_order items.items listed.items) }
+{
+    let mut items = items;
+    items.sort_by(|a, b| compare_items(a, b))?;
+    Ok(items)
+}
