@@ -7,7 +7,7 @@ use crate::booked::Booked;
 use crate::plays::{PassOn, Raise};
 use crate::rule::{InTurns, Origin};
 use crate::view::View;
-use crate::waiting::{LENGTH, SERVING, wait_called};
+use crate::waiting::{LENGTH, SERVING, wait_called, wake_line};
 use atomic_table::{Seat, Table};
 use std::alloc::Global;
 use std::snapshot::Snapshot;
@@ -146,7 +146,8 @@ impl<'d, V: Booked> Pass<'d, V> {
             Some(_) => unreachable!(),
         }
         words.fetch_add::<Raise>(&mut self.seat, LENGTH, seen - self.seen);
-        words.fetch_add::<PassOn>(&mut self.seat, SERVING, 1);
+        let passed = words.fetch_add::<PassOn>(&mut self.seat, SERVING, 1);
+        wake_line(words, passed);
         self.seen = seen;
     }
 }

@@ -22,8 +22,8 @@ fetch_add-requires g c =
           (subst (λ (w : View g.row.V-Entry.Denot). MayFollow g.V.Booked.by w.number w.seen (g.V.Booked.history c.args.turn.value)) (sym (ap (λ m. m.0) swapped)) c.requires.follows) (omega arith) (omega arith),
     )
 
-pub fetch_add-requires-2 : goal.fetch_add-requires-2
-fetch_add-requires-2 g c =
+pub fetch_add-passed-requires : goal.fetch_add-passed-requires
+fetch_add-passed-requires g c =
     let swapped = c.exchange-nothing.ensures.3 in
     let words = c.args.self.now.desk.now.sized.0 in
     let holds = ap (λ m. m.1) swapped ∙ ap (λ l. (0, Some c.args.turn.value) ∷ rest l) c.requires.within.1 in
