@@ -10,15 +10,43 @@ mod run;
 mod tests;
 mod worker;
 
+ghost use Rattle.std.specs.Prelude.{◌≤◌};
+
 use anyhow::{Context, Result};
+use std::alloc::Global;
 use std::env;
-use std::time::{Clock, Duration, Instant};
+use std::rt::Runtime;
+use std::sync::Wait;
+use std::thread::Threads;
+use std::time::{Duration, Instant};
 
 const FEW: u64 = 800;
+
+const REPEATS: u32 = 5;
 
 fn per_second(turns: u64, spent: Duration) -> u64 {
     let nanos = spent.as_nanos().max(1);
     u64::try_from(u128::from(turns) * 1_000_000_000 / nanos).unwrap_or(u64::MAX)
+}
+
+// The best rates of the lock and of the `Mutex`, whose runs alternate.
+fn best_rates<R: Runtime<A = Global> + Threads + Wait + Sync>(
+    rt: &R,
+    passes: u32,
+    each: u64,
+) -> Result<(u64, u64)>
+    requires { (1 ≤ passes) × (passes ≤ 64) }
+{
+    let (mut lock, mut mutex) = (1, 1);
+    for _ in 0..REPEATS {
+        let start = Instant::now(rt)?;
+        let taken = run::run(rt, rt.alloc(), passes, each)?.len();
+        lock = per_second(taken, start.elapsed(rt)?).max(lock);
+        let start = Instant::now(rt)?;
+        let added = mutex::run(rt, rt.alloc(), passes, each)?.len();
+        mutex = per_second(added, start.elapsed(rt)?).max(mutex);
+    }
+    Ok((lock, mutex))
 }
 
 fn main(rt: HostRuntime) -> Result<()> {
@@ -31,17 +59,13 @@ fn main(rt: HostRuntime) -> Result<()> {
     };
     for passes in [1u32, 2, 4, 8] {
         let each = turns / u64::from(passes);
-        let start = Instant::now(&rt)?;
-        let taken = run::run(&rt, rt.alloc(), passes, each)?.len();
-        let lock = per_second(taken, start.elapsed(&rt)?);
-        let start = Instant::now(&rt)?;
-        let added = mutex::run(&rt, rt.alloc(), passes, each)?.len();
-        let mutex = per_second(added, start.elapsed(&rt)?);
         if word.is_some() {
+            let (lock, mutex) = best_rates(&rt, passes, each)?;
             let percent = u128::from(lock) * 100 / u128::from(mutex.max(1));
             println!(rt; "{passes} passes: {lock} turns a second, Mutex {mutex}, {percent} %")?;
         } else {
-            println!(rt; "{passes} passes: {taken} turns, Mutex {added}")?;
+            let taken = run::run(&rt, rt.alloc(), passes, each)?.len();
+            println!(rt; "{passes} passes: {taken} turns")?;
         }
     }
     Ok(())

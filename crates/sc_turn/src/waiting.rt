@@ -19,12 +19,15 @@ pub(crate) const SERVING: usize = 1;
 
 pub(crate) const LENGTH: usize = 2;
 
-// How many rounds of waiting spin, then yield, and then, before a ticket is drawn, sleep.
-const SPINS: u32 = 64;
+// How many rounds of waiting spin, each twice as long as the last, then yield, and then, before a ticket is drawn, sleep.
+const SPINS: u32 = 8;
 
 const YIELDS: u32 = 4;
 
 const NAPS: u32 = 16;
+
+// A round spins for 2 to this power of the processor's hints at most.
+const MOST_HINTS: u32 = 6;
 
 const NAP_MICROS: u64 = 50;
 
@@ -61,7 +64,9 @@ fn pause<V: Booked, R: Wait>(rt: &R, words: &Words<V>, round: u32, serving: u64)
     requires { words.now.table_id.words ≡ 3 }
 {
     if round < SPINS {
-        hint::spin_loop();
+        for _ in 0..1u32 << round.min(MOST_HINTS) {
+            hint::spin_loop();
+        }
     } else if round < SPINS + YIELDS {
         thread::yield_now();
     } else {
