@@ -1,9 +1,9 @@
 -- How what is known of a history goes on as the history does, and what a closed lock's cards show.
-use Rattle.std.proofs.Common.{◌≡◌, ◌≢◌, ℕ, zero, suc, ◌+◌, ◌-◌, ◌<◌, ◌≤◌, List, [], ◌∷◌, ◌++◌, length, get_or, map, sym, refl, ap, ◌∙◌, subst, ⊎_elim, append_assoc, arith, length-append}
-use Rattle.std.specs.Prelude.{Some, slice_get}
+use Rattle.std.proofs.Common.{◌≡◌, ◌≢◌, ℕ, zero, suc, ◌+◌, ◌-◌, ◌<◌, ◌≤◌, List, [], ◌∷◌, ◌++◌, length, get_or, map, sym, refl, ap, ◌∙◌, subst, ⊎_elim, append_assoc, arith, length-append, ne_eqb, Bool}
+use Rattle.std.specs.Prelude.{Some, slice_get, ◌==◌, filter}
 use Rattle.std.specs.List.{All}
 use Rattle.std.proofs.lemmas.List.{append-nil}
-use Rattle.std.proofs.lemmas.List.Elements.{All-nil, All-append, All-weaker}
+use Rattle.std.proofs.lemmas.List.Elements.{All-nil, All-append, All-weaker, filter-append}
 use mathlib.Core.Logic.{dite}
 use native.Mathlib.Decide.{dec_le}
 use Rattle.std.proofs.Math.Nat.{lt_of_not-le}
@@ -36,6 +36,20 @@ module _ {E : Type 0} (by : E → ℕ) where
     whole = sym (append_assoc base later tail) ∙ ap (λ l. l ++ tail) h.whole ∙ append_assoc seen h.rest tail;
     others = All-append (λ e. by e ≢ number) h.rest tail h.others (All-weaker (λ e. by e ≡ other) (λ e. by e ≢ number) (λ e is eq. ne (sym is ∙ eq)) tail his);
   }
+
+  own_none : (number : ℕ) (xs : List E) → All (λ e. by e ≢ number) xs → filter (λ e. by e == number) xs ≡ []
+  own_none number [] h = refl
+  own_none number (x ∷ xs) h = let ne : by x ≢ number = h zero x (omega arith) in rw (ne_eqb (by x) number ne) (own_none number xs (λ k d lt. h (suc k) d (omega arith)))
+
+  -- the entries of a number are those that its pass has seen
+  pub own_kept : (number : ℕ) (seen history : List E) → Knows by number seen history → filter (λ e. by e == number) history ≡ filter (λ e. by e == number) seen
+  own_kept number seen history k =
+      let P : E → Bool = λ e. by e == number in
+      ap (filter P) k.whole ∙ filter-append P seen k.rest ∙ ap (λ l. filter P seen ++ l) (own_none number k.rest k.others) ∙ append-nil (filter P seen)
+
+-- cards in their order have all numbers
+pub numbers_in_order : (m : ℕ) (numbers : List ℕ) → length numbers ≡ m → ((k d : ℕ) → k < m → get_or numbers k d ≡ k + 1) → HasNumbers m numbers
+numbers_in_order m numbers len at n low high = let same : n - 1 + 1 ≡ n = omega arith in (n - 1, omega arith, at (n - 1) n (omega arith) ∙ same)
 
 module _ {A : Type 0} (number : A → ℕ) where
   -- where a number is among those of the cards, a card has it

@@ -7,10 +7,10 @@ ghost use Rattle.sc_turn.specs.Passes.{card_desk, card_number, desk_id, desk_pas
 use crate::booked::Booked;
 use crate::pass::{Card, Desk};
 use crate::plays::{Open, TakeBack};
-use crate::waiting::Sitter;
+use crate::waiting::LockSeat;
 use sc_base::Seq;
 
-fn take_back<V: Booked>(desk: &Desk<V>, mut seat: Sitter<V>, cards: Vec<Card<V>>) -> Sitter<V>
+fn take_back<V: Booked>(desk: &Desk<V>, mut seat: LockSeat<V>, cards: Vec<Card<V>>) -> LockSeat<V>
     requires seat { (seat.table_id ≡ desk_id desk.now) × (seat.me ≡ (closer [], [])) }
     requires of { All (λ c. card_desk c ≡ desk_id desk.now) cards.items }
     ensures { (result.table_id ≡ desk_id desk.now) × (result.me ≡ (closer (map pair_of cards.items), [])) }

@@ -7,7 +7,7 @@ use crate::booked::Booked;
 use crate::pass::{Card, Desk};
 use crate::plays::MakeCard;
 use crate::rule::Origin;
-use crate::waiting::Sitter;
+use crate::waiting::LockSeat;
 use atomic_table::{Refused as NoRoom, Table};
 use sc_base::Seq;
 use std::alloc::Global;
@@ -20,7 +20,7 @@ pub struct Refused<V> {
 }
 
 // A desk with no cards yet, and the seat that makes them.
-fn open<V: Booked>(alloc: Global, value: V, passes: u32) -> Result<(Desk<V>, Sitter<V>), V>
+fn open<V: Booked>(alloc: Global, value: V, passes: u32) -> Result<(Desk<V>, LockSeat<V>), V>
     requires { passes ≤ 64 }
     ensures ok { IfOk result (λ d. (d.1.table_id ≡ desk_id d.0) × (d.1.me ≡ (maker 0 (V.history value), [])) × (desk_passes d.0 ≡ passes) × (desk_first d.0 ≡ value)) }
     ensures err { IfErr result (λ v. v ≡ value) }
@@ -44,7 +44,7 @@ fn open<V: Booked>(alloc: Global, value: V, passes: u32) -> Result<(Desk<V>, Sit
     }
 }
 
-fn make_card<V: Booked>(desk: &Desk<V>, seat: &mut Sitter<V>, number: u32, seen: u64) -> Card<V>
+fn make_card<V: Booked>(desk: &Desk<V>, seat: &mut LockSeat<V>, number: u32, seen: u64) -> Card<V>
     requires desk { seat.old.table_id ≡ desk_id desk.now }
     requires few { (0 < number) × (number ≤ desk_passes desk.now) }
     requires maker { seat.old.me ≡ (maker (number - 1) (V.history (desk_first desk.now)), []) }
@@ -58,7 +58,7 @@ fn make_card<V: Booked>(desk: &Desk<V>, seat: &mut Sitter<V>, number: u32, seen:
 
 fn make_cards<V: Booked>(
     desk: &Desk<V>,
-    mut seat: Sitter<V>,
+    mut seat: LockSeat<V>,
     passes: u32,
     seen: u64,
     mut cards: Vec<Card<V>>,

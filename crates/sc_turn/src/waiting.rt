@@ -31,11 +31,11 @@ const MOST_HINTS: u32 = 6;
 
 const NAP_MICROS: u64 = 50;
 
-pub(crate) type Words<V> = Shared<Option<V>, View<<V as Booked>::Entry>, Origin<V>, InTurns>;
+pub(crate) type LockWords<V> = Shared<Option<V>, View<<V as Booked>::Entry>, Origin<V>, InTurns>;
 
-pub(crate) type Sitter<V> = Seat<Option<V>, View<<V as Booked>::Entry>>;
+pub(crate) type LockSeat<V> = Seat<Option<V>, View<<V as Booked>::Entry>>;
 
-fn draw<V: Booked>(words: &Words<V>, seat: &mut Sitter<V>) -> u64
+fn draw<V: Booked>(words: &LockWords<V>, seat: &mut LockSeat<V>) -> u64
     requires table { (seat.old.table_id ≡ words.now.table_id) × (words.now.table_id.words ≡ 3) }
     requires idle { seat.old.me.0.role ≡ Idle }
     ensures seat { (seat.new.table_id ≡ seat.old.table_id) × (seat.new.id ≡ seat.old.id) × (seat.new.me.1 ≡ seat.old.me.1) }
@@ -44,7 +44,7 @@ fn draw<V: Booked>(words: &Words<V>, seat: &mut Sitter<V>) -> u64
     words.fetch_add::<Draw>(seat, TICKET, 1)
 }
 
-fn read_serving<V: Booked>(words: &Words<V>, seat: &mut Sitter<V>, ticket: u64) -> u64
+fn read_serving<V: Booked>(words: &LockWords<V>, seat: &mut LockSeat<V>, ticket: u64) -> u64
     requires table { (seat.old.table_id ≡ words.now.table_id) × (words.now.table_id.words ≡ 3) }
     requires drawn { seat.old.me.0.role ≡ Drawn ticket }
     ensures seat { (seat.new.table_id ≡ seat.old.table_id) × (seat.new.id ≡ seat.old.id) }
@@ -60,7 +60,7 @@ fn low_half(word: u64) -> u32 {
 }
 
 // One round of waiting: the first rounds spin, the next ones yield, and later ones sleep for a moment, or until the next ticket is served.
-fn pause<V: Booked, R: Wait>(rt: &R, words: &Words<V>, round: u32, serving: u64)
+fn pause<V: Booked, R: Wait>(rt: &R, words: &LockWords<V>, round: u32, serving: u64)
     requires { words.now.table_id.words ≡ 3 }
 {
     if round < SPINS {
@@ -80,7 +80,7 @@ fn pause<V: Booked, R: Wait>(rt: &R, words: &Words<V>, round: u32, serving: u64)
 }
 
 // Gives way for a bounded time to those that have drawn a ticket: strict turns between threads that run at once cost each of them a switch.
-fn give_way<V: Booked, R: Wait>(rt: &R, words: &Words<V>)
+fn give_way<V: Booked, R: Wait>(rt: &R, words: &LockWords<V>)
     requires { words.now.table_id.words ≡ 3 }
 {
     for round in 0..SPINS + YIELDS + NAPS {
@@ -93,7 +93,7 @@ fn give_way<V: Booked, R: Wait>(rt: &R, words: &Words<V>)
 }
 
 /// Draws a ticket, and waits until it is served.
-pub(crate) fn wait_called<V: Booked, R: Wait>(rt: &R, words: &Words<V>, seat: &mut Sitter<V>)
+pub(crate) fn wait_called<V: Booked, R: Wait>(rt: &R, words: &LockWords<V>, seat: &mut LockSeat<V>)
     requires table { (seat.old.table_id ≡ words.now.table_id) × (words.now.table_id.words ≡ 3) }
     requires idle { seat.old.me.0.role ≡ Idle }
     ensures seat { (seat.new.table_id ≡ seat.old.table_id) × (seat.new.id ≡ seat.old.id) }
@@ -118,7 +118,7 @@ pub(crate) fn wait_called<V: Booked, R: Wait>(rt: &R, words: &Words<V>, seat: &m
 }
 
 /// Wakes those that wait in line, once a ticket past `passed` is served.
-pub(crate) fn wake_line<V: Booked>(words: &Words<V>, passed: u64)
+pub(crate) fn wake_line<V: Booked>(words: &LockWords<V>, passed: u64)
     requires { words.now.table_id.words ≡ 3 }
 {
     if words.peek(TICKET).saturating_sub(passed) > 1 {
