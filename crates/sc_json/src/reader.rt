@@ -6,7 +6,8 @@ ghost use Rattle.sc_json.specs.declared.tree.Json.{Json};
 
 use crate::fault::{JsonFault, StepFault};
 use crate::state::{Mode, State};
-use crate::step::{finish, quick, step};
+use crate::runs::run;
+use crate::step::{finish, step};
 use crate::tree::Json;
 use sc_base::Stack;
 use std::alloc::Global;
@@ -31,15 +32,15 @@ fn read_all(alloc: Global, bytes: &[u8]) -> Result<Json, JsonFault>
         stack: Stack::new(alloc),
         mode: Mode::Value,
     };
-    for (at, byte) in bytes.iter().enumerate() {
-        match quick(&mut state, *byte) {
-            Err(_) => return Err(JsonFault::OutOfMemory),
-            Ok(true) => continue,
-            Ok(false) => {}
+    let mut at = 0;
+    'reading: loop {
+        at += run(&mut state, &bytes[at..], at)?;
+        if at == bytes.len() {
+            break 'reading;
         }
-        match step(alloc, state, at as u64, *byte) {
+        match step(alloc, &mut state, at as u64, bytes[at]) {
             Err(fault) => return Err(at_place(fault, at as u64)),
-            Ok(next) => state = next,
+            Ok(()) => at += 1,
         }
     }
     match finish(state) {
