@@ -25,7 +25,7 @@ all_plain (b ∷ bs) h =
     let both = and_both (is_plain_byte b) (list_all is_plain_byte bs) h in
     ap (λ (x : List ℕ). x ++ flat_map escaped bs) (plain_escaped b both.0) ∙ ap (λ (x : List ℕ). b ∷ x) (all_plain bs both.1)
 
-flat_map_two : (xs ys : List ℕ) → flat_map escaped (xs ++ ys) ≡ flat_map escaped xs ++ flat_map escaped ys
+pub flat_map_two : (xs ys : List ℕ) → flat_map escaped (xs ++ ys) ≡ flat_map escaped xs ++ flat_map escaped ys
 flat_map_two [] ys = refl
 flat_map_two (x ∷ xs) ys = ap (λ (t : List ℕ). escaped x ++ t) (flat_map_two xs ys) ∙ sym (append_assoc (escaped x) (flat_map escaped xs) (flat_map escaped ys))
 

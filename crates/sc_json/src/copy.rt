@@ -11,7 +11,10 @@ pub(crate) fn copy_json(alloc: Global, tree: &Json) -> Result<Json, AllocError>
     match tree {
         Json::Null => Ok(Json::Null),
         Json::Truth(truth) => Ok(Json::Truth(*truth)),
-        Json::Number(number) => Ok(Json::Number(copy_number(alloc, number)?)),
+        Json::Number(number) => Ok(Json::Number(Num {
+            literal: number.literal.try_clone(alloc)?,
+            dec: number.dec,
+        })),
         Json::Text(text) => Ok(Json::Text(text.try_clone(alloc)?)),
         Json::List(elements) => {
             let copies = copy_elements(alloc, elements.as_slice())?;
@@ -22,16 +25,6 @@ pub(crate) fn copy_json(alloc: Global, tree: &Json) -> Result<Json, AllocError>
             Ok(Json::Object(Seq::of(copies)))
         }
     }
-}
-
-fn copy_number(alloc: Global, number: &Num) -> Result<Num, AllocError>
-    ensures { IfOk result (λ copy. copy ≡ number.now) }
-{
-    let dec = &number.dec;
-    Ok(Num {
-        literal: number.literal.try_clone(alloc)?,
-        dec: Dec::new(dec.neg(), dec.m(), dec.e()),
-    })
 }
 
 #[cycle(copy)]
