@@ -16,7 +16,8 @@ use Rattle.sc_json.specs.Grammar.{AreDigits, Literal}
 use Rattle.sc_json.proofs.Steps.{Leads, stays, steps, leads_on}
 use Rattle.sc_json.proofs.Words.{number_goes, digits_go, whole_on, power_on, fraction_goes}
 use Rattle.sc_json.proofs.Values.{Begins, Settles}
-use Rattle.sc_json.proofs.Complete.{Reaches, from_begins, ReadsNumbers}
+use Rattle.sc_json.proofs.Complete.{Reaches, from_begins, ReadsNumbers, number_tree}
+use Rattle.sc_json.proofs.Numerals.{literal_json}
 
 -- ---- where a number ends
 
@@ -179,8 +180,10 @@ starts st k h grammar.positive (grammar.digits d ds lo hi all) f p n t l = from_
 starts st k h grammar.negative grammar.zero_digit f p n t l = from_begins st k h 45 _ n t refl (λ e. absurd (omega (arith, e))) l
 starts st k h grammar.negative (grammar.digits d ds lo hi all) f p n t l = from_begins st k h 45 _ n t refl (λ e. absurd (omega (arith, e))) l
 
-literal_reaches : (ds : List ℕ) (v : Json) → Literal ds → number_json ds ≡ Some v → (k : List Frame) (s : State) → Begins s k → (n : ℕ) → Reaches ds n s k v
-literal_reaches _ v (grammar.literal s w f p sg wh fr pw) e k st h n =
+literal_reaches : (ds : List ℕ) → Literal ds → (k : List Frame) (s : State) → Begins s k → (n : ℕ) → Reaches ds n s k (number_tree ds)
+literal_reaches _ (grammar.literal s w f p sg wh fr pw) k st h n =
+    let v : Json = number_tree (s ++ w ++ f ++ p) in
+    let e : number_json (s ++ w ++ f ++ p) ≡ Some v = literal_json (s ++ w ++ f ++ p) (grammar.literal s w f p sg wh fr pw) in
     let i = integer_leads sg wh k n in
     let a = fraction_leads fr i.part i.is k (s ++ w) n (n + length (s ++ w)) in
     let b = power_leads pw a.part a.is k (s ++ w ++ f) n (n + length (s ++ w ++ f)) in
