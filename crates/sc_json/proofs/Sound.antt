@@ -40,12 +40,12 @@ chosen_next : (b : Bool) (x y : Move) (t : Option State) → (cond b x y).next �
 chosen_next true x y t e = inl (refl, e)
 chosen_next false x y t e = inr (refl, e)
 
-record Mapped {A B : Type 0} (f : A → Option B) (o : Option A) (t : B) : Type 0 where
-  x : A
-  is : o ≡ Some x
-  then_is : f x ≡ Some t
+pub record Mapped {A B : Type 0} (f : A → Option B) (o : Option A) (t : B) : Type 0 where
+  pub x : A
+  pub is : o ≡ Some x
+  pub then_is : f x ≡ Some t
 
-mapped : {A B : Type 0} (f : A → Option B) (o : Option A) (t : B) → option_map_or f o None ≡ Some t → Mapped f o t
+pub mapped : {A B : Type 0} (f : A → Option B) (o : Option A) (t : B) → option_map_or f o None ≡ Some t → Mapped f o t
 mapped f None t e = absurd cc
 mapped f (Some x) t e = record { x = x; is = refl; then_is = e }
 

@@ -131,7 +131,7 @@ fraction_mantissa ds h = record {
 }
 
 with_power : (m p : List ℕ) → IsMantissa m → grammar.Power p → Literal (m ++ p)
-with_power m p h power = subst (λ (x : List ℕ). Literal (x ++ p)) (sym h.is) (literal h.s h.w h.f p h.minus h.whole h.fraction power)
+with_power m p h e = subst (λ (x : List ℕ). Literal (x ++ p)) (sym h.is) (literal h.s h.w h.f p h.minus h.whole h.fraction e)
 
 mantissa_literal : (ds : List ℕ) → IsMantissa ds → Literal ds
 mantissa_literal ds h = subst Literal (append-nil ds) (with_power ds [] h grammar.no_power)
