@@ -157,15 +157,15 @@ literal_number _ (grammar.literal s w f p sg wh fr pw) =
 
 -- ---- a literal is ASCII
 
-abbrev AreAscii : List ℕ → Type 0
+abbrev pub AreAscii : List ℕ → Type 0
 AreAscii [] = Unit {0}
 AreAscii (b ∷ bs) = (b < 128) × AreAscii bs
 
-ascii_append : (a c : List ℕ) → AreAscii a → AreAscii c → AreAscii (a ++ c)
+pub ascii_append : (a c : List ℕ) → AreAscii a → AreAscii c → AreAscii (a ++ c)
 ascii_append [] c x y = y
 ascii_append (b ∷ a) c x y = (x.0, ascii_append a c x.1 y)
 
-ascii_utf8 : (bs : List ℕ) → AreAscii bs → IsUtf8 bs
+pub ascii_utf8 : (bs : List ℕ) → AreAscii bs → IsUtf8 bs
 ascii_utf8 [] all = IsUtf8-nil
 ascii_utf8 (b ∷ bs) all =
     let small : b < 128 = all.0 in
