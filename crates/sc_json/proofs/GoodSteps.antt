@@ -1,9 +1,10 @@
 -- A byte leads to a good state exactly where it stands in one and breaks no limit.
-use Rattle.std.proofs.Common.{◌≡◌, ◌⊎◌, inl, inr, ℕ, suc, ◌+◌, ◌≤◌, List, [], ◌∷◌, ◌++◌, length, Bool, true, false, cond, eqb, leb, ◌&&◌, Option, Some, None, refl, sym, ap, subst, ◌∙◌, arith}
+use Rattle.std.proofs.Common.{◌≡◌, inl, inr, ℕ, suc, ◌≤◌, List, [], ◌∷◌, ◌++◌, length, Bool, true, false, cond, eqb, leb, ◌&&◌, Option, Some, None, refl, sym, subst, ◌∙◌, arith, IsUtf8}
 use Rattle.std.specs.List.{AllByRecursion}
 use Rattle.std.specs.Option.{option_map_or}
 use Rattle.std.specs.Str.{is_utf8}
 use Rattle.std.proofs.lemmas.Bool.Decides.{nat_tests}
+use Rattle.std.proofs.lemmas.Str.{IsUtf8-from_is_utf8}
 use Rattle.sc_decimal.specs.Value.{is_wide}
 use Rattle.sc_json.specs.declared.tree.Json.{Json}
 use Rattle.sc_json.specs.declared.tree.Json.TheVariants as trees
@@ -27,15 +28,21 @@ use Rattle.sc_json.specs.Grammar as grammar
 use Rattle.sc_json.proofs.Complete.{number_tree}
 use Rattle.sc_json.proofs.Numerals.{literal_json}
 use Rattle.sc_json.proofs.SoundNumbers.{chosen, some_is, InPart, part_literal}
-use Rattle.sc_json.proofs.Sound.{Mapped, mapped}
+use Rattle.sc_json.proofs.Sound.{mapped}
 use Rattle.sc_json.proofs.GoodTrees.{each_push, each_pop, GoodAt, GoodMembers, good_list, list_good, good_object, object_good, members_push, members_pop, good_null, good_truth, good_text, good_number, number_narrow}
 
 -- ---- good states
 
+-- members, and a name that none of them has
+pub record GoodNamed (n : ℕ) (ms : List Member) (name : List ℕ) : Type 0 where
+  pub members : GoodMembers n ms
+  pub new : has_name ms name ≡ false
+  pub utf8 : IsUtf8 name
+
 abbrev pub GoodFrame : ℕ → Frame → Type 0
 GoodFrame n (frames.List xs) = AllByRecursion (GoodAt n) xs
 GoodFrame n (frames.Object ms) = GoodMembers n ms
-GoodFrame n (frames.Member ms name) = GoodMembers n ms × (has_name ms name ≡ false)
+GoodFrame n (frames.Member ms name) = GoodNamed n ms name
 
 abbrev pub GoodStack : List Frame → Type 0
 GoodStack [] = Unit {0}
@@ -210,8 +217,8 @@ element_leaves k xs v b =
 
 one_more_member : (k : List Frame) (ms : List Member) (name : List ℕ) (v : Json) → Alike (GoodState (frames.Object (ms ++ grammar.member name v ∷ []) ∷ k) Name) (GoodState (frames.Member ms name ∷ k) (After v))
 one_more_member k ms name v = record {
-  to = λ g. let r = members_pop (suc (length k)) ms name v g.stack.0 in record { stack = ((r.0, r.1), g.stack.1); few = g.few; value = r.2 };
-  from = λ g. record { stack = (members_push (suc (length k)) ms name v g.stack.0.0 g.stack.0.1 g.value, g.stack.1); few = g.few; value = tt };
+  to = λ g. let r = members_pop (suc (length k)) ms name v g.stack.0 in record { stack = (record { members = r.others; new = r.new; utf8 = r.utf8 }, g.stack.1); few = g.few; value = r.value };
+  from = λ g. record { stack = (members_push (suc (length k)) ms name v g.stack.0.members g.stack.0.new g.stack.0.utf8 g.value, g.stack.1); few = g.few; value = tt };
 }
 
 member_leaves : (k : List Frame) (ms : List Member) (name : List ℕ) (v : Json) (b : ℕ) → Leaves (frames.Member ms name ∷ k) (After v) (member_of k ms name v b)
@@ -286,13 +293,13 @@ grown_leaves k is_name piece bytes from b = λ t e.
     let two = mapped (λ more. Some (at k (Quoted is_name one.x.piece more from))) (with_added bytes one.x.added) t one.then_is in
     same_stack k (Quoted is_name piece bytes from) (Quoted is_name one.x.piece two.x from) (λ l. tt) (λ l. tt) t two.then_is
 
-named_fine : (k : List Frame) (piece : pieces.Piece) (bytes : List ℕ) (from : ℕ) → Fine k (Quoted true piece bytes from) (named_of k bytes from)
-named_fine [] piece bytes from = λ t e. absurd cc
-named_fine (frames.List xs ∷ k) piece bytes from = λ t e. absurd cc
-named_fine (frames.Member ms name ∷ k) piece bytes from = λ t e. absurd cc
-named_fine (frames.Object ms ∷ k) piece bytes from = λ t e. subst (λ (x : State). Alike (GoodTo x) (Allowed (frames.Object ms ∷ k) (Quoted true piece bytes from) (cond {A = Option Limit} (has_name ms bytes) (Some (double from)) None))) (some_is (at (frames.Member ms bytes ∷ k) Colon) t e) (record {
-  to = λ g. record { good = record { stack = (g.stack.0.0, g.stack.1); few = g.few; value = tt }; none = unbroken_from (has_name ms bytes) g.stack.0.1 };
-  from = λ a. record { stack = ((a.good.stack.0, other_from (has_name ms bytes) a.none), a.good.stack.1); few = a.good.few; value = tt };
+named_fine : (k : List Frame) (piece : pieces.Piece) (bytes : List ℕ) (from : ℕ) → IsUtf8 bytes → Fine k (Quoted true piece bytes from) (named_of k bytes from)
+named_fine [] piece bytes from u = λ t e. absurd cc
+named_fine (frames.List xs ∷ k) piece bytes from u = λ t e. absurd cc
+named_fine (frames.Member ms name ∷ k) piece bytes from u = λ t e. absurd cc
+named_fine (frames.Object ms ∷ k) piece bytes from u = λ t e. subst (λ (x : State). Alike (GoodTo x) (Allowed (frames.Object ms ∷ k) (Quoted true piece bytes from) (cond {A = Option Limit} (has_name ms bytes) (Some (double from)) None))) (some_is (at (frames.Member ms bytes ∷ k) Colon) t e) (record {
+  to = λ g. record { good = record { stack = (g.stack.0.members, g.stack.1); few = g.few; value = tt }; none = unbroken_from (has_name ms bytes) g.stack.0.new };
+  from = λ a. record { stack = (record { members = a.good.stack.0; new = other_from (has_name ms bytes) a.none; utf8 = u }, a.good.stack.1); few = a.good.few; value = tt };
 })
   where
     unbroken_from : (b : Bool) → b ≡ false → cond {A = Option Limit} b (Some (double from)) None ≡ None
@@ -303,12 +310,12 @@ named_fine (frames.Object ms ∷ k) piece bytes from = λ t e. subst (λ (x : St
     other_from false h = refl
 
 unquote_fine : (k : List Frame) (is_name : Bool) (piece : pieces.Piece) (bytes : List ℕ) (from : ℕ) → Fine k (Quoted is_name piece bytes from) (unquote_of k is_name bytes from)
-unquote_fine k is_name piece bytes from = go is_name (is_utf8 bytes)
+unquote_fine k is_name piece bytes from = go is_name (is_utf8 bytes) refl
   where
-    go : (is_name u : Bool) → Fine k (Quoted is_name piece bytes from) (option_map_or (λ x. cond is_name (named_of k x from) (goes (at k (After (trees.Text x))))) (cond {A = Option (List ℕ)} u (Some bytes) None) refused)
-    go is_name false = λ t e. absurd cc
-    go true true = named_fine k piece bytes from
-    go false true = unbroken k (Quoted false piece bytes from) _ (same_stack k (Quoted false piece bytes from) (After (trees.Text bytes)) (λ l. tt) (good_text bytes (length k)))
+    go : (is_name u : Bool) → is_utf8 bytes ≡ u → Fine k (Quoted is_name piece bytes from) (option_map_or (λ x. cond is_name (named_of k x from) (goes (at k (After (trees.Text x))))) (cond {A = Option (List ℕ)} u (Some bytes) None) refused)
+    go is_name false is = λ t e. absurd cc
+    go true true is = named_fine k piece bytes from (IsUtf8-from_is_utf8 bytes is)
+    go false true is = unbroken k (Quoted false piece bytes from) _ (same_stack k (Quoted false piece bytes from) (After (trees.Text bytes)) (λ l. tt) (good_text bytes (IsUtf8-from_is_utf8 bytes is) (length k)))
 
 quoted_fine : (k : List Frame) (is_name : Bool) (piece : pieces.Piece) (bytes : List ℕ) (from b : ℕ) → Fine k (Quoted is_name piece bytes from) (quoted_move k is_name piece bytes from b)
 quoted_fine k is_name piece bytes from b =

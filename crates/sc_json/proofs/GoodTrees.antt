@@ -1,9 +1,8 @@
 -- A list or an object is good by what is in it.
-use Rattle.std.proofs.Common.{◌≡◌, ◌≢◌, ◌⊎◌, inl, inr, ℕ, zero, suc, ◌+◌, ◌≤◌, ◌<◌, max, List, [], ◌∷◌, ◌++◌, length, get_or, map, Bool, true, false, ◌||◌, refl, sym, ap, subst, ◌∙◌, arith, length-append, AllPairs}
-use Rattle.std.specs.List.{AllByRecursion, list_any}
+use Rattle.std.proofs.Common.{◌≡◌, ◌≢◌, ℕ, zero, suc, ◌+◌, ◌≤◌, ◌<◌, List, [], ◌∷◌, ◌++◌, length, get_or, map, Bool, true, false, ◌||◌, refl, sym, ap, subst, ◌∙◌, arith, length-append, IsUtf8}
+use Rattle.std.specs.List.{AllByRecursion}
 use Rattle.std.specs.Prelude.{nat_eq}
 use Rattle.std.specs.Cmp.Lexicographic.{pointwise, bytes_decides}
-use Rattle.std.proofs.lemmas.Bool.Decides.{not_from_Decides}
 use Rattle.std.proofs.lemmas.List.{get_or_append_left}
 use Rattle.std.proofs.lemmas.List.Quantifiers.{all_pairs_push}
 use Rattle.std.proofs.Math.Seq.{get_or-append_seam}
@@ -14,12 +13,12 @@ use Rattle.sc_json.specs.declared.tree.Json.TheVariants as trees
 use Rattle.sc_json.specs.declared.tree.Json.TheOpen as layer
 use Rattle.sc_json.specs.declared.tree.Json.TheOpen.{Json-F, Member-F}
 use Rattle.sc_json.specs.declared.tree.Json.TheViews.{out-Json, roll-Json, out-roll-Json, roll-out-Member, out-roll-Member}
-use Rattle.sc_json.specs.declared.tree.Json.TheFolds.{fold-Json, fold-Member, fold-roll-Json, fold_out-Member, map-Json, map-Member, every-Json, every-Member, every_here-Json, every_held-Json, every_held-Member, every_made-Json, every_made-Member}
-use Rattle.sc_json.specs.declared.tree.Member.{Member, out-Member, roll-Member}
+use Rattle.sc_json.specs.declared.tree.Json.TheFolds.{fold-Member, fold-roll-Json, fold_out-Member, map-Json, map-Member, every-Json, every-Member, every_here-Json, every_here-Member, every_held-Json, every_held-Member, every_made-Json, every_made-Member}
+use Rattle.sc_json.specs.declared.tree.Member.{Member, out-Member}
 use Rattle.sc_json.specs.Machine.{has_name}
 use Rattle.sc_json.specs.Grammar as grammar
 use Rattle.sc_json.specs.Grammar.{Literal}
-use Rattle.sc_json.specs.Good.{greatest, level_depth, member_depth, depth, IsAsSent, NamesDiffer, IsGoodLevel, IsGoodMember, Good}
+use Rattle.sc_json.specs.Good.{greatest, level_depth, member_depth, depth, IsAsSent, NamesDiffer, IsGoodLevel, IsGoodMember}
 use Rattle.sc_json.proofs.Complete.{number_tree}
 
 -- ---- lists
@@ -57,18 +56,19 @@ Levels = every-Json IsGoodLevel IsGoodMember
 abbrev MemberLevels : Member → Type 0
 MemberLevels = every-Member IsGoodLevel IsGoodMember
 
-abbrev pub ValueLevels : Member → Type 0
-ValueLevels m = Levels (out-Member m).value
+pub record InMember (m : Member) : Type 0 where
+  pub name : IsUtf8 (out-Member m).name
+  pub value : Levels (out-Member m).value
 
-member_levels : (m : Member) → ValueLevels m → MemberLevels m
+member_levels : (m : Member) → InMember m → MemberLevels m
 member_levels m h =
     subst MemberLevels (roll-out-Member m)
-    (every_made-Member IsGoodLevel IsGoodMember (out-Member m) (record { name = (out-Member m).name; value = ((out-Member m).value, h) }) refl tt)
+    (every_made-Member IsGoodLevel IsGoodMember (out-Member m) (record { name = (out-Member m).name; value = ((out-Member m).value, h.value) }) refl h.name)
 
-value_levels : (m : Member) → MemberLevels m → ValueLevels m
-value_levels m h = go (every_held-Member IsGoodLevel IsGoodMember m h)
+value_levels : (m : Member) → MemberLevels m → InMember m
+value_levels m h = record { name = every_here-Member IsGoodLevel IsGoodMember m h; value = go (every_held-Member IsGoodLevel IsGoodMember m h) }
   where
-    go : ((y : Member-F ((x : Json) × Levels x) ((x : Member) × MemberLevels x)) × (map-Member ((x : Json) × Levels x) ((x : Member) × MemberLevels x) Json Member (λ e. e.0) (λ e. e.0) y ≡ out-Member m)) → ValueLevels m
+    go : ((y : Member-F ((x : Json) × Levels x) ((x : Member) × MemberLevels x)) × (map-Member ((x : Json) × Levels x) ((x : Member) × MemberLevels x) Json Member (λ e. e.0) (λ e. e.0) y ≡ out-Member m)) → Levels (out-Member m).value
     go (y, e) = subst Levels (ap (λ (z : Member-F Json Member). z.value) e) y.value.1
 
 list_levels : (xs : List Json) → AllByRecursion Levels xs → Levels (trees.List xs)
@@ -76,9 +76,9 @@ list_levels xs all =
     let ps = pack Levels xs all in
     subst Levels (trees.rolls-List xs) (every_made-Json IsGoodLevel IsGoodMember (layer.List xs) (layer.List ps.0) (ap (λ (ys : List Json). layer.List ys) ps.1) tt)
 
-object_levels : (ms : List Member) → NamesDiffer ms → AllByRecursion ValueLevels ms → Levels (trees.Object ms)
+object_levels : (ms : List Member) → NamesDiffer ms → AllByRecursion InMember ms → Levels (trees.Object ms)
 object_levels ms differ all =
-    let ps = pack MemberLevels ms (each_map ValueLevels MemberLevels member_levels ms all) in
+    let ps = pack MemberLevels ms (each_map InMember MemberLevels member_levels ms all) in
     subst Levels (trees.rolls-Object ms) (every_made-Json IsGoodLevel IsGoodMember (layer.Object ms) (layer.Object ps.0) (ap (λ (ys : List Member). layer.Object ys) ps.1) differ)
 
 abbrev Held : Type 0
@@ -101,8 +101,8 @@ elements_levels xs h = go (every_held-Json IsGoodLevel IsGoodMember (roll-Json (
     go (layer.List ps, e) = let f : layer.List (map (λ p. p.0) ps) ≡ layer.List xs = e ∙ opened in let same : map (λ p. p.0) ps ≡ xs = cc in subst (AllByRecursion Levels) same (unpack Levels ps)
     go (layer.Object ps, e) = let f : layer.Object (map (λ p. p.0) ps) ≡ layer.List xs = e ∙ opened in absurd cc
 
-members_levels : (ms : List Member) → Levels (trees.Object ms) → AllByRecursion ValueLevels ms
-members_levels ms h = each_map MemberLevels ValueLevels value_levels ms (go (every_held-Json IsGoodLevel IsGoodMember (roll-Json (layer.Object ms)) (subst Levels (sym (trees.rolls-Object ms)) h)))
+members_levels : (ms : List Member) → Levels (trees.Object ms) → AllByRecursion InMember ms
+members_levels ms h = each_map MemberLevels InMember value_levels ms (go (every_held-Json IsGoodLevel IsGoodMember (roll-Json (layer.Object ms)) (subst Levels (sym (trees.rolls-Object ms)) h)))
   where
     opened : out-Json (roll-Json (layer.Object ms)) ≡ layer.Object ms
     opened = out-roll-Json (layer.Object ms)
@@ -124,8 +124,8 @@ null_levels = subst Levels trees.rolls-Null (every_made-Json IsGoodLevel IsGoodM
 pub truth_levels : (b : Bool) → Levels (trees.Truth b)
 truth_levels b = subst Levels (trees.rolls-Truth b) (every_made-Json IsGoodLevel IsGoodMember (layer.Truth b) (layer.Truth b) refl tt)
 
-pub text_levels : (t : List ℕ) → Levels (trees.Text t)
-text_levels t = subst Levels (trees.rolls-Text t) (every_made-Json IsGoodLevel IsGoodMember (layer.Text t) (layer.Text t) refl tt)
+pub text_levels : (t : List ℕ) → IsUtf8 t → Levels (trees.Text t)
+text_levels t u = subst Levels (trees.rolls-Text t) (every_made-Json IsGoodLevel IsGoodMember (layer.Text t) (layer.Text t) refl u)
 
 pub number_levels : (ds : List ℕ) → Literal ds → is_wide ds ≡ false → Levels (number_tree ds)
 number_levels ds l narrow =
@@ -220,8 +220,9 @@ pub record GoodAt (n : ℕ) (v : Json) : Type 0 where
   pub levels : Levels v
   pub within : depth v + n ≤ 64
 
-abbrev pub GoodValue : ℕ → Member → Type 0
-GoodValue n m = GoodAt n (out-Member m).value
+pub record GoodValue (n : ℕ) (m : Member) : Type 0 where
+  pub name : IsUtf8 (out-Member m).name
+  pub value : GoodAt n (out-Member m).value
 
 pub record GoodMembers (n : ℕ) (ms : List Member) : Type 0 where
   pub differ : NamesDiffer ms
@@ -241,18 +242,17 @@ list_good n xs g =
 
 pub good_object : (n : ℕ) (ms : List Member) → GoodMembers (suc n) ms → suc n ≤ 64 → GoodAt n (trees.Object ms)
 good_object n ms g few = record {
-  levels = object_levels ms g.differ (each_map (GoodValue (suc n)) ValueLevels (λ x g. g.levels) ms g.all);
-  within = omega (arith, object_depth ms, greatest_from depth_in (suc n) 64 ms few (each_map (GoodValue (suc n)) (λ m. depth_in m + suc n ≤ 64) (λ m g. subst (λ (x : ℕ). x + suc n ≤ 64) (sym (depth_in_is m)) g.within) ms g.all));
+  levels = object_levels ms g.differ (each_map (GoodValue (suc n)) InMember (λ x g. record { name = g.name; value = g.value.levels }) ms g.all);
+  within = omega (arith, object_depth ms, greatest_from depth_in (suc n) 64 ms few (each_map (GoodValue (suc n)) (λ m. depth_in m + suc n ≤ 64) (λ m g. subst (λ (x : ℕ). x + suc n ≤ 64) (sym (depth_in_is m)) g.value.within) ms g.all));
 }
 
 pub object_good : (n : ℕ) (ms : List Member) → GoodAt n (trees.Object ms) → GoodMembers (suc n) ms × (suc n ≤ 64)
 object_good n ms g =
     let within : depth (trees.Object ms) + n ≤ 64 = g.within in
-    let top : greatest (map depth_in ms) + suc n ≤ 64 = omega (arith, object_depth ms, within) in
-    (
+    let top : greatest (map depth_in ms) + suc n ≤ 64 = omega (arith, object_depth ms, within) in (
       record {
         differ = object_names ms g.levels;
-        all = each_both ValueLevels (λ m. depth_in m + suc n ≤ 64) (GoodValue (suc n)) (λ m l w. record { levels = l; within = subst (λ (x : ℕ). x + suc n ≤ 64) (depth_in_is m) w }) ms (members_levels ms g.levels) (greatest_to depth_in (suc n) 64 ms top);
+        all = each_both InMember (λ m. depth_in m + suc n ≤ 64) (GoodValue (suc n)) (λ m l w. record { name = l.name; value = record { levels = l.value; within = subst (λ (x : ℕ). x + suc n ≤ 64) (depth_in_is m) w } }) ms (members_levels ms g.levels) (greatest_to depth_in (suc n) 64 ms top);
       },
       omega (arith, top),
     )
@@ -261,22 +261,29 @@ member_out : (name : List ℕ) (v : Json) → out-Member (grammar.member name v)
 member_out name v = out-roll-Member (record { name = name; value = v })
 
 -- one more member
-pub members_push : (n : ℕ) (ms : List Member) (name : List ℕ) (v : Json) → GoodMembers n ms → has_name ms name ≡ false → GoodAt n v → GoodMembers n (ms ++ grammar.member name v ∷ [])
-members_push n ms name v g h one =
-    let out : Member-F Json Member = record { name = name; value = v } in
+pub members_push : (n : ℕ) (ms : List Member) (name : List ℕ) (v : Json) → GoodMembers n ms → has_name ms name ≡ false → IsUtf8 name → GoodAt n v → GoodMembers n (ms ++ grammar.member name v ∷ [])
+members_push n ms name v g h utf8 one =
+    let is : record { name = name; value = v } ≡ out-Member (grammar.member name v) = sym (member_out name v) in
     record {
-      differ = names_push ms (grammar.member name v) g.differ (subst (λ (x : Member-F Json Member). has_name ms x.name ≡ false) (sym (member_out name v)) h);
-      all = each_push (GoodValue n) ms (grammar.member name v) g.all (subst (λ (x : Member-F Json Member). GoodAt n x.value) (sym (member_out name v)) one);
+      differ = names_push ms (grammar.member name v) g.differ (subst (λ (x : Member-F Json Member). has_name ms x.name ≡ false) is h);
+      all = each_push (GoodValue n) ms (grammar.member name v) g.all (record { name = subst (λ (x : Member-F Json Member). IsUtf8 x.name) is utf8; value = subst (λ (x : Member-F Json Member). GoodAt n x.value) is one });
     }
 
-pub members_pop : (n : ℕ) (ms : List Member) (name : List ℕ) (v : Json) → GoodMembers n (ms ++ grammar.member name v ∷ []) → GoodMembers n ms × (has_name ms name ≡ false) × GoodAt n v
+pub record WithoutLast (n : ℕ) (ms : List Member) (name : List ℕ) (v : Json) : Type 0 where
+  pub others : GoodMembers n ms
+  pub new : has_name ms name ≡ false
+  pub utf8 : IsUtf8 name
+  pub value : GoodAt n v
+
+pub members_pop : (n : ℕ) (ms : List Member) (name : List ℕ) (v : Json) → GoodMembers n (ms ++ grammar.member name v ∷ []) → WithoutLast n ms name v
 members_pop n ms name v g =
     let parts = each_pop (GoodValue n) ms (grammar.member name v) g.all in
-    (
-      record { differ = names_before ms (grammar.member name v) g.differ; all = parts.0 },
-      subst (λ (x : Member-F Json Member). has_name ms x.name ≡ false) (member_out name v) (names_last ms (grammar.member name v) g.differ),
-      subst (λ (x : Member-F Json Member). GoodAt n x.value) (member_out name v) parts.1,
-    )
+    record {
+      others = record { differ = names_before ms (grammar.member name v) g.differ; all = parts.0 };
+      new = subst (λ (x : Member-F Json Member). has_name ms x.name ≡ false) (member_out name v) (names_last ms (grammar.member name v) g.differ);
+      utf8 = subst (λ (x : Member-F Json Member). IsUtf8 x.name) (member_out name v) parts.1.name;
+      value = subst (λ (x : Member-F Json Member). GoodAt n x.value) (member_out name v) parts.1.value;
+    }
 
 pub good_null : (n : ℕ) → n ≤ 64 → GoodAt n trees.Null
 good_null n le = record { levels = null_levels; within = omega (arith, null_depth) }
@@ -284,8 +291,8 @@ good_null n le = record { levels = null_levels; within = omega (arith, null_dept
 pub good_truth : (b : Bool) (n : ℕ) → n ≤ 64 → GoodAt n (trees.Truth b)
 good_truth b n le = record { levels = truth_levels b; within = omega (arith, truth_depth b) }
 
-pub good_text : (t : List ℕ) (n : ℕ) → n ≤ 64 → GoodAt n (trees.Text t)
-good_text t n le = record { levels = text_levels t; within = omega (arith, text_depth t) }
+pub good_text : (t : List ℕ) → IsUtf8 t → (n : ℕ) → n ≤ 64 → GoodAt n (trees.Text t)
+good_text t u n le = record { levels = text_levels t u; within = omega (arith, text_depth t) }
 
 pub good_number : (ds : List ℕ) (n : ℕ) → Literal ds → is_wide ds ≡ false → n ≤ 64 → GoodAt n (number_tree ds)
 good_number ds n l narrow le = record { levels = number_levels ds l narrow; within = omega (arith, number_depth (record { literal = ds; dec = number_of ds })) }

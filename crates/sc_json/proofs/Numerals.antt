@@ -1,16 +1,13 @@
 -- A number's literal is read as a decimal number, and is a text.
-use Rattle.std.proofs.Common.{◌≡◌, ℕ, ◌+◌, ◌-◌, ◌*◌, ◌≤◌, ◌<◌, List, [], ◌∷◌, ◌++◌, Bool, true, false, eqb, leb, ◌&&◌, Option, Some, None, refl, sym, ap, subst, ◌∙◌, append_assoc, arith, ◌⊎◌, inl, inr, IsUtf8}
+use Rattle.std.proofs.Common.{◌≡◌, ℕ, ◌+◌, ◌-◌, ◌*◌, ◌≤◌, ◌<◌, List, [], ◌∷◌, ◌++◌, true, false, eqb, leb, Option, Some, None, refl, sym, ap, subst, ◌∙◌, append_assoc, arith, ◌⊎◌, inl, inr, IsUtf8}
 use Rattle.std.specs.Option.{option_map_or}
-use Rattle.std.specs.Char.{encode_utf8}
 use Rattle.std.proofs.lemmas.Bool.{ne_eqb}
 use Rattle.std.proofs.lemmas.Bool.Decides.{nat_tests}
 use Rattle.std.proofs.lemmas.Str.{IsUtf8-nil, IsUtf8-append, IsUtf8-encode, encode_ascii}
-use Rattle.sc_base.specs.Text.{text_of}
 use Rattle.sc_decimal.specs.declared.form.Form.{Form}
 use Rattle.sc_decimal.specs.declared.form.Form.TheVariants as forms
-use Rattle.sc_decimal.specs.Digits.{Seen, in_form, add_digit, whole_of, fraction_of, power_of, seen_in, seen_step, seen_from, seen_of, nothing_seen, whole_seen, ended_in, ends_number}
+use Rattle.sc_decimal.specs.Digits.{Seen, in_form, add_digit, whole_of, fraction_of, power_of, seen_in, seen_step, seen_from, seen_of, nothing_seen, whole_seen, ends_number}
 use Rattle.sc_decimal.specs.Value.{is_number, number_of}
-use Rattle.sc_json.specs.declared.tree.Json.{Json}
 use Rattle.sc_json.specs.declared.tree.Json.TheVariants as trees
 use Rattle.sc_json.specs.Machine.{number_json}
 use Rattle.sc_json.specs.Characters.{is_digit_byte}

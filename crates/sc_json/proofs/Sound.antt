@@ -1,12 +1,11 @@
 -- What the machine takes, the grammar has.
-use Rattle.std.proofs.Common.{◌≡◌, ◌⊎◌, inl, inr, ℕ, ◌+◌, ◌≤◌, List, [], ◌∷◌, ◌++◌, length, Bool, true, false, cond, eqb, leb, ◌&&◌, Option, Some, None, refl, sym, ap, subst, ◌∙◌, append_assoc, arith, length-append}
+use Rattle.std.proofs.Common.{◌≡◌, ◌⊎◌, inl, inr, ℕ, ◌≤◌, List, [], ◌∷◌, ◌++◌, length, Bool, true, false, cond, eqb, leb, ◌&&◌, Option, Some, None, refl, sym, ap, subst, ◌∙◌, append_assoc, arith, length-append}
 use Rattle.std.specs.Option.{option_map_or}
 use Rattle.std.specs.Str.{is_utf8}
 use Rattle.std.proofs.lemmas.Bool.{eqb-true}
 use Rattle.std.proofs.lemmas.Bool.Decides.{nat_tests}
 use Rattle.std.proofs.lemmas.List.{append-nil}
 use Rattle.std.proofs.lemmas.Str.{IsUtf8-from_is_utf8}
-use Rattle.sc_base.specs.Text.{text_of}
 use Rattle.sc_json.specs.declared.tree.Json.{Json}
 use Rattle.sc_json.specs.declared.tree.Json.TheVariants as trees
 use Rattle.sc_json.specs.declared.tree.Member.{Member}
@@ -21,11 +20,10 @@ use Rattle.sc_json.specs.declared.state.Frame.{Frame}
 use Rattle.sc_json.specs.declared.state.Frame.TheVariants as frames
 use Rattle.sc_json.specs.declared.state.Mode.{Mode}
 use Rattle.sc_json.specs.declared.state.Mode.TheVariants.{Value, First, FirstName, Name, Colon, Word, Number, Quoted, After}
-use Rattle.sc_json.specs.declared.quoted.Grown.{Grown}
 use Rattle.sc_json.specs.Characters.{is_blank_byte}
 use Rattle.sc_json.specs.Numbers.{next_part, is_whole}
 use Rattle.sc_json.specs.Pieces.{piece_of}
-use Rattle.sc_json.specs.Machine.{Move, at, goes, plain, refused, nested, scalar_of, begin_of, close_list_of, close_object_of, first_of, name_of, first_name_of, colon_of, element_of, member_of, inner_of, after_of, wanted_of, with_letter, word_of, number_json, ended_value, ended_move, number_move, named_of, unquote_of, with_added, grown_of, is_plain, quoted_move, step_in, step_of, alone, end_value_in, end_value}
+use Rattle.sc_json.specs.Machine.{Move, at, goes, refused, scalar_of, begin_of, close_list_of, close_object_of, first_of, name_of, first_name_of, colon_of, element_of, member_of, inner_of, after_of, wanted_of, with_letter, word_of, ended_value, ended_move, number_move, named_of, unquote_of, with_added, grown_of, is_plain, quoted_move, step_in, step_of, end_value_in, end_value}
 use Rattle.sc_json.specs.Grammar as grammar
 use Rattle.sc_json.specs.Grammar.{AreBlanks, Padded, pad, Begun, Named, Field, field, null_text, true_text, false_text}
 use Rattle.sc_json.proofs.Steps.{Leads, stays, steps}
@@ -34,7 +32,7 @@ use Rattle.sc_json.proofs.Numerals.{literal_json}
 use Rattle.sc_json.proofs.SoundNumbers.{chosen, some_is, InPart, part_literal, part_keeps, minus_part, zero_part, whole_part}
 use Rattle.sc_json.proofs.SoundTexts.{Writes, writes_on, writes_nothing, writes_bits}
 use Rattle.sc_json.proofs.SoundUtf8.{bits_pieces}
-use Rattle.sc_json.proofs.SoundStates.{InList, InObject, BehindName, InMember, InFrame, Inside, AtValue, Opened, AtFirst, AtFirstName, MayName, AtName, AtColon, letters_of, AtWord, AtNumber, AtQuoted, AtAfter, Reads, ReadsTo}
+use Rattle.sc_json.proofs.SoundStates.{Inside, AtValue, Opened, AtFirst, AtFirstName, MayName, AtName, AtColon, letters_of, AtWord, AtNumber, AtQuoted, AtAfter, Reads, ReadsTo}
 
 chosen_next : (b : Bool) (x y : Move) (t : Option State) → (cond b x y).next ≡ t → ((b ≡ true) × (x.next ≡ t)) ⊎ ((b ≡ false) × (y.next ≡ t))
 chosen_next true x y t e = inl (refl, e)

@@ -1,5 +1,5 @@
 -- What the machine takes of a number, the grammar has.
-use Rattle.std.proofs.Common.{◌≡◌, ◌⊎◌, inl, inr, ℕ, ◌≤◌, List, [], ◌∷◌, ◌++◌, Bool, true, false, cond, eqb, leb, ◌&&◌, Option, Some, None, refl, sym, ap, subst, ◌∙◌, append_assoc, arith}
+use Rattle.std.proofs.Common.{◌≡◌, ◌⊎◌, inl, inr, ℕ, ◌≤◌, List, [], ◌∷◌, ◌++◌, Bool, true, false, cond, eqb, Some, refl, sym, ap, subst, ◌∙◌, append_assoc, arith}
 use Rattle.std.proofs.lemmas.Bool.{eqb-true}
 use Rattle.std.proofs.lemmas.Bool.Decides.{nat_tests}
 use Rattle.std.proofs.lemmas.List.{append-nil}
@@ -230,18 +230,18 @@ power_keeps : (ds : List ℕ) (b : ℕ) (q : Part) → AtPower ds → next_part 
 power_keeps ds b q h e =
     elim (chosen (is_digit_byte b) _ _ _ e) [
       | inl p ↦ to_part (ds ++ b ∷ []) parts.Power q (record {
-          m = h.m;
-          mark = h.mark;
-          s = h.s;
-          d = h.d;
-          more = h.more ++ b ∷ [];
-          mantissa = h.mantissa;
-          mark_is = h.mark_is;
-          sign = h.sign;
-          one = h.one;
-          all = digits_push h.more b h.all p.0;
-          is = ap (λ (x : List ℕ). x ++ b ∷ []) h.is ∙ simp append_assoc;
-        }) p.1
+        m = h.m;
+        mark = h.mark;
+        s = h.s;
+        d = h.d;
+        more = h.more ++ b ∷ [];
+        mantissa = h.mantissa;
+        mark_is = h.mark_is;
+        sign = h.sign;
+        one = h.one;
+        all = digits_push h.more b h.all p.0;
+        is = ap (λ (x : List ℕ). x ++ b ∷ []) h.is ∙ simp append_assoc;
+      }) p.1
       | inr p ↦ absurd cc
     ]
 

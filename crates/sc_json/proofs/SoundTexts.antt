@@ -1,23 +1,21 @@
 -- What the machine takes of a text in quotes, the grammar has.
-use Rattle.std.proofs.Common.{◌≡◌, ◌≢◌, ◌⊎◌, inl, inr, ℕ, ◌+◌, ◌-◌, ◌*◌, ◌<◌, ◌≤◌, List, [], ◌∷◌, ◌++◌, Bool, true, false, cond, eqb, ltb, leb, ◌&&◌, Option, Some, None, refl, sym, ap, subst, ◌∙◌, append_assoc, arith, IsUtf8, length, take, drop, get_or}
+use Rattle.std.proofs.Common.{◌≡◌, ◌≢◌, ◌⊎◌, inl, inr, ℕ, ◌+◌, ◌-◌, ◌*◌, ◌<◌, ◌≤◌, List, [], ◌∷◌, ◌++◌, true, false, eqb, ltb, leb, ◌&&◌, Option, Some, None, refl, sym, ap, subst, ◌∙◌, append_assoc, arith}
 use Rattle.std.specs.Option.{option_map_or}
-use Rattle.std.specs.Char.{IsScalar, encode_utf8}
-use Rattle.std.specs.Str.{IsCharBoundary}
+use Rattle.std.specs.Char.{encode_utf8}
 use Rattle.std.proofs.lemmas.Bool.{eqb-true, cases_lt}
 use Rattle.std.proofs.lemmas.Bool.Decides.{nat_tests}
 use Rattle.std.proofs.lemmas.List.{append-nil}
-use Rattle.std.proofs.lemmas.Str.{IsUtf8-take, IsUtf8-drop, IsUtf8-past_char}
 use Rattle.sc_json.specs.declared.state.Piece as pieces
 use Rattle.sc_json.specs.declared.state.Piece.TheVariants.{Plain, Slash, Unit as Units, Unit1, Unit2, Unit3, Pair, PairSlash, Low, Low1, Low2, Low3}
 use Rattle.sc_json.specs.declared.quoted.Grown.{Grown}
 use Rattle.sc_json.specs.declared.quoted.Added.TheVariants.{Nothing, Byte, Scalar}
 use Rattle.sc_json.specs.Hex.{hex_of, utf8_of, halves}
-use Rattle.sc_json.specs.Pieces.{piece_of, slash_of, unit_of, low_of, digit_in, onward, added}
+use Rattle.sc_json.specs.Pieces.{piece_of, slash_of, digit_in, onward, added}
 use Rattle.sc_json.specs.Machine.{with_added}
 use Rattle.sc_json.specs.Grammar as grammar
 use Rattle.sc_json.specs.Grammar.{Letter, AreHex, Piece, IsUnit, IsPair, unit, pair, letter, Pieces, no_piece, one_more}
 use Rattle.sc_json.proofs.Hexadecimal.{hex_is}
-use Rattle.sc_json.proofs.Utf8.{utf8_is, IsPlainByte, ArePlain, IsOneChar, piece_char}
+use Rattle.sc_json.proofs.Utf8.{utf8_is, IsPlainByte}
 use Rattle.sc_json.proofs.SoundNumbers.{chosen, some_is}
 
 -- ---- a text up to a place, by its bytes
@@ -160,12 +158,12 @@ ends_char raw bytes bs e c g bits piece h a =
     (λ a. elim (chosen {A = Option (List ℕ)} (leb 1114112 c) None (Some (bytes ++ utf8_of c)) (Some bs) a) [
       | inl r ↦ absurd cc
       | inr r ↦ record {
-          raw' = raw ++ e;
-          e' = [];
-          bits = subst (λ (x : List ℕ). Bits (raw ++ e) x) (ap (λ (x : List ℕ). bytes ++ x) (sym (utf8_is c)) ∙ some_is (bytes ++ utf8_of c) bs r.1) (escape raw e bytes (encode_utf8 c) bits piece);
-          place = refl;
-          is = sym (append-nil (raw ++ e));
-        }
+        raw' = raw ++ e;
+        e' = [];
+        bits = subst (λ (x : List ℕ). Bits (raw ++ e) x) (ap (λ (x : List ℕ). bytes ++ x) (sym (utf8_is c)) ∙ some_is (bytes ++ utf8_of c) bs r.1) (escape raw e bytes (encode_utf8 c) bits piece);
+        place = refl;
+        is = sym (append-nil (raw ++ e));
+      }
     ]) a
 
 plain_grows : (raw bytes bs : List ℕ) (b : ℕ) (g : Grown) → Bits raw bytes → b ≢ 34 → piece_of Plain b ≡ Some g → with_added bytes g.added ≡ Some bs → Grows (b ∷ []) raw bytes bs g.piece

@@ -1,5 +1,5 @@
 -- Where what a text stands for is UTF-8, the bytes in it that stand for themselves are whole characters.
-use Rattle.std.proofs.Common.{◌≡◌, ℕ, ◌+◌, ◌<◌, ◌≤◌, List, [], ◌∷◌, ◌++◌, true, refl, sym, ap, subst, ◌∙◌, append_assoc, arith, IsUtf8, length, take, drop, get_or, length-append}
+use Rattle.std.proofs.Common.{◌≡◌, ℕ, ◌<◌, ◌≤◌, List, [], ◌∷◌, ◌++◌, true, refl, sym, ap, subst, ◌∙◌, append_assoc, arith, IsUtf8, length, get_or, length-append}
 use Rattle.std.specs.Str.{IsCharBoundary}
 use Rattle.std.proofs.lemmas.Bool.{and_parts}
 use Rattle.std.proofs.lemmas.List.{append-nil, get_or_append_left, get_or-append-add}
@@ -7,7 +7,7 @@ use Rattle.std.proofs.lemmas.Str.{IsUtf8-take, IsUtf8-drop, IsUtf8-past_char, Is
 use Rattle.std.proofs.Math.Seq.{take-append_seam, drop-append_seam}
 use lib.Utf8.{scalar, scalars, encode, encodes}
 use Rattle.sc_json.specs.Grammar.{Piece, plain, Pieces, no_piece, one_more}
-use Rattle.sc_json.proofs.Utf8.{IsPlainByte, ArePlain, plain_char, IsOneChar, piece_char}
+use Rattle.sc_json.proofs.Utf8.{ArePlain, plain_char, piece_char}
 use Rattle.sc_json.proofs.SoundTexts.{Bits, no_bit, byte, escape}
 
 abbrev IsLead : List ℕ → Type 0

@@ -16,7 +16,7 @@ use Rattle.sc_json.specs.Good.{depth, Good}
 use Rattle.sc_json.specs.Spells.{Spells}
 use Rattle.sc_json.proofs.Steps.{Leads, stays, steps, leads_one}
 use Rattle.sc_json.proofs.Values.{begins_value}
-use Rattle.sc_json.proofs.Complete.{Reaches, padded_reaches}
+use Rattle.sc_json.proofs.Complete.{padded_reaches}
 use Rattle.sc_json.proofs.Literals.{numbers}
 use Rattle.sc_json.proofs.Only.{after_ends}
 use Rattle.sc_json.proofs.SoundStates.{Reads, ReadsTo}
@@ -79,8 +79,7 @@ good_reads (stays n s) done v len r e g =
     (ap (λ (l : Option Limit). unless l n (ended n (end_value s))) a.1 ∙ ap (ended n) e, a.0)
 good_reads (steps b bs n s t u h l) done v len r e g =
     let later = good_reads l (done ++ b ∷ []) v (omega (arith, length-append done (b ∷ []), len)) (step_keeps done s.stack s.mode n b t len r h) e g in
-    let a = good_step s.stack s.mode n b t (unfinished s.stack s.mode done r) h later.1 in
-    (
+    let a = good_step s.stack s.mode n b t (unfinished s.stack s.mode done r) h later.1 in (
       ap (λ (x : Option Limit). unless x n (option_map_or (read_from bs (n + 1)) (step_of s n b).next (Err (faults.Syntax n)))) a.1 ∙ ap (λ (o : Option State). option_map_or (read_from bs (n + 1)) o (Err (faults.Syntax n))) h ∙ later.0,
       a.0,
     )

@@ -1,11 +1,10 @@
 -- A JSON text is UTF-8.
-use Rattle.std.proofs.Common.{◌≡◌, ℕ, ◌<◌, List, [], ◌∷◌, ◌++◌, Bool, true, false, eqb, ◌||◌, refl, sym, subst, arith, ◌⊎◌, inl, inr, IsUtf8}
+use Rattle.std.proofs.Common.{◌≡◌, ℕ, ◌<◌, List, [], ◌∷◌, ◌++◌, Bool, true, false, eqb, ◌||◌, refl, sym, subst, arith, IsUtf8}
 use Rattle.std.proofs.lemmas.Bool.{eqb-true}
 use Rattle.std.proofs.lemmas.Str.{IsUtf8-nil, IsUtf8-append, IsUtf8-encode}
 use Rattle.sc_json.specs.declared.tree.Json.{Json}
 use Rattle.sc_json.specs.declared.tree.Member.{Member}
 use Rattle.sc_json.specs.Characters.{is_blank_byte}
-use Rattle.sc_json.specs.Hex.{hex_of}
 use Rattle.sc_json.specs.Grammar as grammar
 use Rattle.sc_json.specs.Grammar.{AreBlanks, Letter, AreHex, Piece, plain, letter, unit, pair, Pieces, no_piece, one_more, Quoted, Padded, pad, Begun, Field, field, Named}
 use Rattle.sc_json.proofs.Hexadecimal.{hex_is}

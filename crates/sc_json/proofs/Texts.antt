@@ -1,5 +1,5 @@
 -- What the grammar has of a text, the machine takes.
-use Rattle.std.proofs.Common.{◌≡◌, ◌≢◌, ℕ, ◌+◌, ◌-◌, ◌*◌, ◌<◌, ◌≤◌, List, [], ◌∷◌, ◌++◌, length, Bool, true, false, cond, eqb, ltb, leb, ◌&&◌, Option, Some, None, refl, sym, ap, subst, ◌∙◌, append_assoc, arith, ◌⊎◌, inl, inr}
+use Rattle.std.proofs.Common.{◌≡◌, ℕ, ◌+◌, ◌-◌, ◌*◌, ◌<◌, ◌≤◌, List, [], ◌∷◌, ◌++◌, length, Bool, true, false, cond, eqb, ltb, leb, ◌&&◌, Option, Some, None, refl, sym, ap, subst, ◌∙◌, append_assoc, arith, ◌⊎◌, inl, inr}
 use Rattle.std.proofs.lemmas.Bool.{eqb-true}
 use Rattle.std.proofs.lemmas.List.{append-nil}
 use Rattle.std.specs.Option.{option_map_or}
@@ -17,7 +17,7 @@ use Rattle.sc_json.specs.declared.tree.Json.TheVariants as trees
 use Rattle.sc_base.specs.Text.{text_of}
 use Rattle.std.specs.Char.{encode_utf8}
 use Rattle.sc_json.proofs.Hexadecimal.{hex_is}
-use Rattle.sc_json.proofs.Utf8.{utf8_is, IsPlainByte, ArePlain, char_plain, text_is, pieces_utf8}
+use Rattle.sc_json.proofs.Utf8.{utf8_is, ArePlain, char_plain, text_is, pieces_utf8}
 use Rattle.sc_json.specs.declared.tree.Member.{Member}
 use Rattle.sc_json.specs.declared.state.Frame.TheVariants as frames
 use Rattle.sc_json.specs.declared.state.Mode.TheVariants.{Value, Name, Colon, After}

@@ -1,12 +1,12 @@
 -- Good trees, which are all that a reader gives: the names in each object differ (RFC 8259 §4), each number is as it was
--- sent, and lists and objects nest at most 64 deep.
-use Rattle.std.specs.Prelude.{◌≡◌, ◌≢◌, ℕ, ◌+◌, ◌≤◌, max, List, [], ◌∷◌, Bool, false, AllPairs}
+-- sent (§6), texts and names are UTF-8 (§8.1), and lists and objects nest at most 64 deep.
+use Rattle.std.specs.Prelude.{◌≡◌, ◌≢◌, ℕ, ◌+◌, ◌≤◌, max, List, [], ◌∷◌, false, AllPairs, IsUtf8}
 use Rattle.sc_decimal.specs.Value.{number_of, is_wide}
 use Rattle.sc_json.specs.declared.tree.Num.{Num}
 use Rattle.sc_json.specs.declared.tree.Json.{Json}
 use Rattle.sc_json.specs.declared.tree.Json.TheOpen as layer
 use Rattle.sc_json.specs.declared.tree.Json.TheOpen.{Json-F, Member-F}
-use Rattle.sc_json.specs.declared.tree.Json.TheFolds.{fold-Json, fold-Member, every-Json}
+use Rattle.sc_json.specs.declared.tree.Json.TheFolds.{fold-Json, every-Json}
 use Rattle.sc_json.specs.declared.tree.Member.{Member, out-Member}
 use Rattle.sc_json.specs.Grammar.{Literal}
 
@@ -48,12 +48,12 @@ abbrev pub IsGoodLevel : Json-F Json Member → Type 0
 IsGoodLevel layer.Null = Unit {0}
 IsGoodLevel (layer.Truth b) = Unit {0}
 IsGoodLevel (layer.Number n) = IsAsSent n
-IsGoodLevel (layer.Text t) = Unit {0}
+IsGoodLevel (layer.Text t) = IsUtf8 t
 IsGoodLevel (layer.List ts) = Unit {0}
 IsGoodLevel (layer.Object ms) = NamesDiffer ms
 
 abbrev pub IsGoodMember : Member-F Json Member → Type 0
-IsGoodMember m = Unit {0}
+IsGoodMember m = IsUtf8 m.name
 
 pub record Good (tree : Json) : Type 0 where
   pub levels : every-Json IsGoodLevel IsGoodMember tree
