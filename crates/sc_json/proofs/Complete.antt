@@ -38,10 +38,10 @@ first_name_same : (k : List Frame) (ms : List Member) (n : ℕ) → (step_of (at
 unfolding step_of
 first_name_same k ms n = refl
 
-name_from : (s : State) (k : List Frame) (ms : List Member) → BeginsName s k ms → (bs : List ℕ) (n : ℕ) (t : State) → Leads (34 ∷ bs) n (at (frames.Object ms ∷ k) Name) t → Leads (34 ∷ bs) n s t
+pub name_from : (s : State) (k : List Frame) (ms : List Member) → BeginsName s k ms → (bs : List ℕ) (n : ℕ) (t : State) → Leads (34 ∷ bs) n (at (frames.Object ms ∷ k) Name) t → Leads (34 ∷ bs) n s t
 name_from s k ms h bs n t (steps _ _ _ _ t' _ e l) = steps 34 bs n s t' t (h.same n ∙ e) l
 
-quoted_from : (s : State) (k : List Frame) (ms : List Member) → BeginsName s k ms → (m bytes : List ℕ) → Quoted m bytes → (n : ℕ) → Leads m n s (at (frames.Member ms bytes ∷ k) Colon)
+pub quoted_from : (s : State) (k : List Frame) (ms : List Member) → BeginsName s k ms → (m bytes : List ℕ) → Quoted m bytes → (n : ℕ) → Leads m n s (at (frames.Member ms bytes ∷ k) Colon)
 quoted_from s k ms h m bytes q n =
     let t : State = at (frames.Member ms bytes ∷ k) Colon in
     subst (λ (x : List ℕ). Leads x n s t) (sym q.is)
