@@ -48,7 +48,7 @@ word_went m (inr (inl e)) k s h n = subst (λ (x : List ℕ). Went x n s) (sym e
 word_went m (inr (inr e)) k s h n = subst (λ (x : List ℕ). Went x n s) (sym e) (value_went false_text _ grammar.no k s h n)
 
 pub literal_went : (ds : List ℕ) → Literal ds → (k : List Frame) (s : State) → Begins s k → (n : ℕ) → Went ds n s
-literal_went ds l k s h n = ?
+literal_went ds l k s h n = value_went ds _ (grammar.number ds l) k s h n
 
 -- ---- texts in quotes
 
