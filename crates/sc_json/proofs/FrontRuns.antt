@@ -66,7 +66,7 @@ quote_begins : (k : List Frame) (n : ℕ) → (step_of (at k Value) n 34).next �
 unfolding step_of
 quote_begins k n = refl
 
-name_begins : (k : List Frame) (n : ℕ) → (step_of (at k Name) n 34).next ≡ Some (within k true Plain [] n)
+pub name_begins : (k : List Frame) (n : ℕ) → (step_of (at k Name) n 34).next ≡ Some (within k true Plain [] n)
 unfolding step_of
 name_begins k n = refl
 

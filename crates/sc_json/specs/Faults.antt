@@ -1,6 +1,7 @@
 -- The faults of a JSON text and their places. Of all faults that hold the one with the least place is answered, but that
 -- of bytes which aren't UTF-8 comes before all others.
 use Rattle.std.specs.Prelude.{◌≡◌, ◌⊎◌, ℕ, ◌+◌, ◌<◌, ◌≤◌, List, [], ◌∷◌, ◌++◌, length, take, true, IsUtf8}
+use Rattle.std.specs.List.{Any}
 use Rattle.sc_decimal.specs.Value.{is_wide}
 use Rattle.sc_json.specs.declared.tree.Json.{Json}
 use Rattle.sc_json.specs.declared.tree.Member.{Member, out-Member}
@@ -39,12 +40,8 @@ pub record IsTooWide (bytes : List ℕ) (at : ℕ) : Type 0 where
   pub longest : (more others : List ℕ) → rest ≡ more ++ others → Literal (number ++ more) → more ≡ []
   pub wide : is_wide number ≡ true
 
--- members one of which has this name, after its escapes are read
-pub data HaveName : List Member → List ℕ → Type 0 where
-  first : (m : Member) (ms : List Member) → HaveName (m ∷ ms) (out-Member m).name
-  later : (m : Member) (ms : List Member) (name : List ℕ) → HaveName ms name → HaveName (m ∷ ms) name
-
--- a member's whole name, from its opening quote on, which an earlier member of the object has
+-- a member's whole name, from its opening quote on, which an earlier member of the object has too, both after their
+-- escapes are read
 pub record IsDuplicate (bytes : List ℕ) (at : ℕ) : Type 0 where
   pub before : List ℕ
   pub members : List ℕ
@@ -60,7 +57,7 @@ pub record IsDuplicate (bytes : List ℕ) (at : ℕ) : Type 0 where
   pub named : Named members earlier
   pub are_blank : AreBlanks blank
   pub spells : Quoted quoted name
-  pub have : HaveName earlier name
+  pub again : Any (λ m. (out-Member m).name ≡ name) earlier
 
 -- the faults that a text of whole characters has
 abbrev pub HasFault : List ℕ → JsonFault → Type 0
