@@ -10,11 +10,11 @@ use Rattle.sc_json.specs.Grammar.{Piece, plain, Pieces, no_piece, one_more}
 use Rattle.sc_json.proofs.Utf8.{ArePlain, plain_char, piece_char}
 use Rattle.sc_json.proofs.SoundTexts.{Bits, no_bit, byte, escape}
 
-abbrev IsLead : List ℕ → Type 0
+abbrev pub IsLead : List ℕ → Type 0
 IsLead ys = 128 ≤ get_or ys 0 0 → 192 ≤ get_or ys 0 0
 
 -- a text is cut before a character
-cut : (xs ys : List ℕ) → IsUtf8 (xs ++ ys) → IsLead ys → IsUtf8 xs × IsUtf8 ys
+pub cut : (xs ys : List ℕ) → IsUtf8 (xs ++ ys) → IsLead ys → IsUtf8 xs × IsUtf8 ys
 cut xs ys u lead = (
   subst IsUtf8 (take-append_seam xs ys) (IsUtf8-take (xs ++ ys) (length xs) u boundary),
   subst IsUtf8 (drop-append_seam xs ys) (IsUtf8-drop (xs ++ ys) (length xs) u boundary),
@@ -26,7 +26,7 @@ cut xs ys u lead = (
     boundary : IsCharBoundary (xs ++ ys) (length xs)
     boundary = (omega (arith, length-append xs ys), λ lt high. omega (arith, here, lead (omega (arith, here, high))))
 
-char_lead : (c : ℕ) (p : List ℕ) → scalar c ≡ true → IsLead (encode c ++ p)
+pub char_lead : (c : ℕ) (p : List ℕ) → scalar c ≡ true → IsLead (encode c ++ p)
 char_lead c p ok =
     let some : 0 < length (encode c) = omega (arith, length-encode c, len_utf8_bounds c) in
     subst (λ (n : ℕ). 128 ≤ n → 192 ≤ n) (sym (get_or_append_left (encode c) p 0 0 some)) ((IsCharBoundary-start (encode c) (IsUtf8-encode c ok)).1 some)
