@@ -49,6 +49,11 @@ deep_hit bytes place h =
       breaks = opens_deep w.state w.stack w.begins w.deep (length h.before) h.bracket h.opens ∙ ap (λ (i : ℕ). Some (deep i)) (sym h.place);
     }
 
+-- it is met at the bracket
+pub deep_hit_at : (bytes : List ℕ) (place : ℕ) → (h : OpensTooDeep bytes place) → length (deep_hit bytes place h).x ≡ place
+unfolding deep_hit
+deep_hit_at bytes place h = sym h.place
+
 -- ---- names
 
 pub same_bytes : (xs ys : List ℕ) → pointwise nat_eq xs ys ≡ true → xs ≡ ys

@@ -25,12 +25,12 @@ use Rattle.sc_json.proofs.LimitRuns.{BreaksAt, Hit}
 -- ---- how far behind a whole number
 
 -- the next part is whole, or a byte further behind
-abbrev Behind : ℕ → Option Part → Type 0
+abbrev pub Behind : ℕ → Option Part → Type 0
 Behind m None = Unit {0}
 Behind m (Some q) = (is_whole q ≡ true) ⊎ (behind_whole q ≡ Some (m + 1))
 
-record Steps (m : ℕ) (o : Option Part) : Type 0 where
-  behind : Behind m o
+pub record Steps (m : ℕ) (o : Option Part) : Type 0 where
+  pub behind : Behind m o
 
 either : (m : ℕ) (b : Bool) (x y : Option Part) → Steps m x → Steps m y → Steps m (cond b x y)
 either m true x y p q = p
@@ -45,7 +45,7 @@ further m q h = record { behind = inr h }
 none : (m : ℕ) → Steps m None
 none m = record { behind = tt }
 
-count_is : (n m : ℕ) → Some n ≡ Some m → n ≡ m
+pub count_is : (n m : ℕ) → Some n ≡ Some m → n ≡ m
 count_is n m e = cc
 
 counted : (q : Part) (n m : ℕ) → behind_whole q ≡ Some n → n ≡ m → behind_whole q ≡ Some m
@@ -57,7 +57,7 @@ mark_steps b = either 0 _ _ _ (further 0 parts.Mark refl) (either 0 _ _ _ (furth
 point_steps : (b : ℕ) → Steps 0 (point_of b)
 point_steps b = either 0 _ _ _ (further 0 parts.Point refl) (mark_steps b)
 
-part_steps : (p : Part) (b m : ℕ) → behind_whole p ≡ Some m → Steps m (next_part p b)
+pub part_steps : (p : Part) (b m : ℕ) → behind_whole p ≡ Some m → Steps m (next_part p b)
 part_steps parts.Minus b m e = absurd cc
 part_steps parts.Zero b m e = subst (λ (i : ℕ). Steps i (next_part parts.Zero b)) (count_is 0 m e) (point_steps b)
 part_steps parts.Whole b m e = subst (λ (i : ℕ). Steps i (next_part parts.Whole b)) (count_is 0 m e) (either 0 _ _ _ (whole 0 parts.Whole refl) (point_steps b))
@@ -67,7 +67,7 @@ part_steps parts.Mark b m e = subst (λ (i : ℕ). Steps i (next_part parts.Mark
 part_steps parts.Sign b m e = either m _ _ _ (whole m parts.Power refl) (none m)
 part_steps parts.Power b m e = either m _ _ _ (whole m parts.Power refl) (none m)
 
-whole_behind : (p : Part) → is_whole p ≡ true → behind_whole p ≡ Some 0
+pub whole_behind : (p : Part) → is_whole p ≡ true → behind_whole p ≡ Some 0
 whole_behind parts.Minus h = absurd cc
 whole_behind parts.Zero h = refl
 whole_behind parts.Whole h = refl
@@ -79,15 +79,15 @@ whole_behind parts.Power h = refl
 
 -- ---- where a number ends
 
-abbrev NoMore : Part → List ℕ → Type 0
+abbrev pub NoMore : Part → List ℕ → Type 0
 NoMore p [] = Unit {0}
 NoMore p (b ∷ rest) = next_part p b ≡ None
 
-at_byte : (k : List Frame) (p : Part) (ds : List ℕ) (from n b : ℕ) → next_part p b ≡ None → (step_of (at k (Number p ds from)) n b).breaks ≡ ended_breaks p ds from
+pub at_byte : (k : List Frame) (p : Part) (ds : List ℕ) (from n b : ℕ) → next_part p b ≡ None → (step_of (at k (Number p ds from)) n b).breaks ≡ ended_breaks p ds from
 unfolding step_of
 at_byte k p ds from n b h = rw h refl
 
-at_end : (k : List Frame) (p : Part) (ds : List ℕ) (from : ℕ) → end_breaks (at k (Number p ds from)) ≡ ended_breaks p ds from
+pub at_end : (k : List Frame) (p : Part) (ds : List ℕ) (from : ℕ) → end_breaks (at k (Number p ds from)) ≡ ended_breaks p ds from
 unfolding end_breaks
 at_end k p ds from = refl
 
@@ -98,10 +98,10 @@ ends_here k p ds from n (b ∷ rest) l h e = at_byte k p ds from n b h ∙ e
 wide_here : (ds : List ℕ) (from : ℕ) → is_wide ds ≡ true → wide_of ds from ≡ Some (wide from)
 wide_here ds from h = rw h refl
 
-front_is : (number more : List ℕ) (c : ℕ) → c ≡ length more → take (length (number ++ more) - c) (number ++ more) ≡ number
+pub front_is : (number more : List ℕ) (c : ℕ) → c ≡ length more → take (length (number ++ more) - c) (number ++ more) ≡ number
 front_is number more c e = take_at number more (length (number ++ more) - c) (let l = length-append number more in omega (arith, l, e))
 
-nothing_more : (more : List ℕ) → 0 ≡ length more → more ≡ []
+pub nothing_more : (more : List ℕ) → 0 ≡ length more → more ≡ []
 nothing_more [] e = refl
 nothing_more (b ∷ more) e = absurd (omega (arith, e))
 

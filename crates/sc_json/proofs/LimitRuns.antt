@@ -280,6 +280,17 @@ step_tracks : (s : State) (n b : ℕ) → Tracks (from_of s.mode) n (step_of s n
 unfolding step_of
 step_tracks s n b = mode_tracks s.stack s.mode n b
 
+-- behind a number no token goes on that began before
+ended_next : (k : List Frame) (q : Part) (ds : List ℕ) (from n b : ℕ) → next_part q b ≡ None → (step_of (at k (Number q ds from)) n b).next ≡ option_map_or (λ v. after_of k v b) (ended_value q ds) None
+unfolding step_of
+ended_next k q ds from n b h = rw h refl
+
+pub ended_leaves : (k : List Frame) (q : Part) (ds : List ℕ) (from n b : ℕ) (t : State) (p : ℕ) → next_part q b ≡ None → (step_of (at k (Number q ds from)) n b).next ≡ Some t → from_of t.mode ≡ Some p → p ≡ n
+ended_leaves k q ds from n b t p h e f = elim ((next_maybe None n (λ (v : Json). after_of k v b) (ended_value q ds) None (λ v. after_tracks None n k v b) (nothing_next None n)).from t p (sym (ended_next k q ds from n b h) ∙ e) f) [
+  | inl x ↦ absurd cc
+  | inr x ↦ x
+]
+
 -- ---- the place of a limit
 
 -- a token that is being read began before here
@@ -294,7 +305,7 @@ token_before (steps b bs n s t u e l) h p f =
     omega (arith, lt)
 
 -- and was being read all the while
-token_back : {bs : List ℕ} {n : ℕ} {s t : State} → Leads bs n s t → (p : ℕ) → p < n → from_of t.mode ≡ Some p → from_of s.mode ≡ Some p
+pub token_back : {bs : List ℕ} {n : ℕ} {s t : State} → Leads bs n s t → (p : ℕ) → p < n → from_of t.mode ≡ Some p → from_of s.mode ≡ Some p
 token_back (stays n s) p lt e = e
 token_back (steps b bs n s t u e l) p lt f = elim ((step_tracks s n b).next.from t p e (token_back l p (omega (arith, lt)) f)) [
   | inl x ↦ x
@@ -355,13 +366,14 @@ pub record Hit (bytes : List ℕ) (l : Limit) : Type 0 where
   pub breaks : BreaksAt rest (length x) state l
 
 -- what was read without breaking a limit lies before it
-pub record Ahead (x rest : List ℕ) (t : State) (l : Limit) : Type 0 where
+pub record Ahead (x rest : List ℕ) (t : State) (l : Limit) (met : ℕ) : Type 0 where
   pub z : List ℕ
   pub others : List ℕ
   pub state : State
   pub is : rest ≡ z ++ others
   pub leads : Leads z (length x) t state
   pub breaks : BreaksAt others (length x + length z) state l
+  pub met_at : met ≡ length x + length z
 
 clean_cut : (y : List ℕ) (b : ℕ) (z : List ℕ) (n : ℕ) (s t u : State) → Clean (y ++ b ∷ z) n s t → Leads y n s u → (step_of u (n + length y) b).breaks ≡ None
 clean_cut [] b z n s t u (moves _ _ _ _ s' _ e f c) (stays _ _) = subst (λ (i : ℕ). (step_of s i b).breaks ≡ None) (omega arith) f
@@ -369,7 +381,7 @@ clean_cut (d ∷ y) b z n s t u (moves _ _ _ _ s' _ e f c) (steps _ _ _ _ s'' _ 
     let same : s'' ≡ s' = cc in
     subst (λ (i : ℕ). (step_of u i b).breaks ≡ None) (omega arith) (clean_cut y b z (n + 1) s' t u c (subst (λ (w : State). Leads y (n + 1) w u) same l))
 
-pub ahead : (bytes x rest : List ℕ) (t : State) (l : Limit) → bytes ≡ x ++ rest → Clean x 0 start t → Hit bytes l → Ahead x rest t l
+pub ahead : (bytes x rest : List ℕ) (t : State) (l : Limit) → bytes ≡ x ++ rest → Clean x 0 start t → (h : Hit bytes l) → Ahead x rest t l (length h.x)
 ahead bytes x rest t l is clean h = elim (overlap x rest h.x h.rest (sym is ∙ h.is)) [
   | past z f g ↦
     let r = leads_cut x z 0 start h.state (subst (λ (w : List ℕ). Leads w 0 start h.state) f h.leads) in
@@ -381,6 +393,7 @@ ahead bytes x rest t l is clean h = elim (overlap x rest h.x h.rest (sym is ∙ 
       is = g;
       leads = subst (λ (w : State). Leads z (length x) w h.state) same (subst (λ (i : ℕ). Leads z i r.state h.state) (omega arith) r.goes_on);
       breaks = subst (λ (i : ℕ). BreaksAt h.rest i h.state l) (ap length f ∙ length-append x z) h.breaks;
+      met_at = ap length f ∙ length-append x z;
     }
   | within b z f g ↦
     let none = subst (λ (i : ℕ). (step_of h.state i b).breaks ≡ None) (omega arith) (clean_cut h.x b z 0 start t h.state (subst (λ (w : List ℕ). Clean w 0 start t) f clean) h.leads) in
