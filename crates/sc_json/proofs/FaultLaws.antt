@@ -103,7 +103,7 @@ same_place bytes (NumberTooWide p) OutOfMemory x y e = absurd y
 same_place bytes (NotUtf8 p) g x y e = absurd x
 same_place bytes OutOfMemory g x y e = absurd x
 
-one_first : (bytes : List ℕ) (f g : JsonFault) → IsFirstFault bytes f → IsFirstFault bytes g → f ≡ g
+pub one_first : (bytes : List ℕ) (f g : JsonFault) → IsFirstFault bytes f → IsFirstFault bytes g → f ≡ g
 one_first bytes f g x y = let a = x.first g y.has in let b = y.first f x.has in same_place bytes f g x.has y.has (omega (arith, a, b))
 
 -- ---- bytes that aren't UTF-8

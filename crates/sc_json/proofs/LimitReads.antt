@@ -20,7 +20,7 @@ use Rattle.sc_json.specs.declared.state.Part.TheVariants as parts
 use Rattle.sc_json.specs.declared.state.Piece as pieces
 use Rattle.sc_json.specs.declared.state.Piece.TheVariants.{Plain, Slash, Unit as Units, Unit1, Unit2, Unit3, Pair, PairSlash, Low, Low1, Low2, Low3}
 use Rattle.sc_json.specs.Numbers.{next_part, behind_whole, is_whole}
-use Rattle.sc_json.specs.Machine.{at, start, Move, goes, plain, nested, step_in, step_of, end_breaks, Limit, double, deep, wide, limit_fault, is_blank_byte, scalar_of, close_list_of, begin_of, ended_breaks, wide_of, number_move, ended_move, named_of, unquote_of, refused, has_name, is_plain, grown_of}
+use Rattle.sc_json.specs.Machine.{at, start, Move, goes, plain, nested, step_in, step_of, end_breaks, end_breaks_in, Limit, double, deep, wide, limit_fault, is_blank_byte, scalar_of, close_list_of, begin_of, ended_breaks, wide_of, number_move, ended_move, named_of, unquote_of, refused, has_name, is_plain, grown_of}
 use Rattle.sc_json.specs.Grammar as grammar
 use Rattle.sc_json.specs.Grammar.{AreBlanks, Literal, literal}
 use Rattle.sc_json.specs.Faults.{Awaits, outermost, element, member_value, OpensTooDeep, IsTooWide, IsDuplicate, HasFault}
@@ -327,3 +327,76 @@ no_longer o ds number tail rest depth k part aw leads is filled behind ends more
         let f' : (step_of (at k (Number part ds (length o))) (length o + length ds) b).next ≡ Some v = subst (λ (x : State). (step_of x (length o + length ds) b).next ≡ Some v) same f in
         let q = ended_leaves k part ds (length o) (length o + length ds) b v (length o) none f' back in
         omega (arith, q, some)
+
+number_fault : (bytes x rest : List ℕ) (k : List Frame) (part : Part) (ds : List ℕ) (from : ℕ) (l : Limit) → bytes ≡ x ++ rest → Leads x 0 start (at k (Number part ds from)) → NoMore part rest → ended_breaks part ds from ≡ Some l → HasFault bytes (limit_fault l)
+number_fault bytes x rest k part ds from l is leads ends e =
+    let r = reads_from_start x (at k (Number part ds from)) leads in
+    let j = judged part ds from l r.so_far e in
+    let o : List ℕ = r.o ++ r.l in
+    let aw : Awaits o (length k) = awaits_of k r.o r.l (start_fits leads) r.inside r.blank in
+    let text : x ≡ o ++ ds = r.is ∙ sym (append_assoc r.o r.l ds) in
+    let here : Leads (o ++ ds) 0 start (at k (Number part ds (length o))) = subst (λ (y : List ℕ). Leads y 0 start (at k (Number part ds (length o)))) text (subst (λ (i : ℕ). Leads x 0 start (at k (Number part ds i))) r.from_is leads) in
+    let head = literal_head j.whole in
+    let some : length j.number ≡ length (head.byte ∷ head.more) = ap length head.is in
+    let long : length ds ≡ length j.number + length j.tail = ap length j.is ∙ length-append j.number j.tail in
+    let wide_one : IsTooWide bytes from = record {
+      before = o;
+      number = j.number;
+      rest = j.tail ++ rest;
+      depth = length k;
+      is = is ∙ ap (λ (y : List ℕ). y ++ rest) (text ∙ ap (λ (y : List ℕ). o ++ y) j.is) ∙ simp append_assoc;
+      place = r.from_is;
+      awaits = aw;
+      literal = j.whole;
+      longest = no_longer o ds j.number j.tail rest (length k) k part aw here j.is (omega (arith, some, long)) j.behind ends;
+      wide = j.too_wide;
+    } in
+    subst (λ (m : Limit). HasFault bytes (limit_fault m)) (sym j.limit) wide_one
+
+-- ---- every limit
+
+awaits_value : (k : List Frame) (x : List ℕ) → TakesValue k → Reads k Value x → Awaits x (length k)
+awaits_value k x h r = subst (λ (y : List ℕ). Awaits y (length k)) (sym r.is) (awaits_of k r.o r.l h r.inside r.blank)
+
+awaits_first : (k : List Frame) (x : List ℕ) → TakesValue k → Reads k First x → Awaits x (length k)
+awaits_first [] x h r = absurd r
+awaits_first (frames.List [] ∷ k) x h r = one_more (frames.List []) k x (subst (λ (y : List ℕ). Awaits y (length k + 1)) (sym (r.is ∙ sym (append_assoc r.p r.l (91 ∷ r.w)))) (element (r.p ++ r.l) [] r.w (length k) [] (awaits_of k r.p r.l h r.inside r.blank) grammar.none r.behind))
+awaits_first (frames.List (y ∷ ys) ∷ k) x h r = absurd r
+awaits_first (frames.Object ys ∷ k) x h r = absurd h
+awaits_first (frames.Member ys name ∷ k) x h r = absurd r
+
+end_fault : (bytes x : List ℕ) (k : List Frame) (mode : Mode) (l : Limit) → bytes ≡ x → Leads x 0 start (at k mode) → end_breaks_in mode ≡ Some l → HasFault bytes (limit_fault l)
+end_fault bytes x k Value l is leads e = absurd cc
+end_fault bytes x k First l is leads e = absurd cc
+end_fault bytes x k FirstName l is leads e = absurd cc
+end_fault bytes x k Name l is leads e = absurd cc
+end_fault bytes x k Colon l is leads e = absurd cc
+end_fault bytes x k (Word y) l is leads e = absurd cc
+end_fault bytes x k (Number part ds from) l is leads e = number_fault bytes x [] k part ds from l (is ∙ sym (append-nil x)) leads tt e
+end_fault bytes x k (Quoted is_name piece name from) l is leads e = absurd cc
+end_fault bytes x k (After v) l is leads e = absurd cc
+
+number_byte : (bytes x rest : List ℕ) (b : ℕ) (k : List Frame) (part : Part) (ds : List ℕ) (from : ℕ) (l : Limit) → bytes ≡ x ++ b ∷ rest → Leads x 0 start (at k (Number part ds from)) → (number_move k part ds from b).breaks ≡ Some l → HasFault bytes (limit_fault l)
+number_byte bytes x rest b k part ds from l is leads e = go (next_part part b) refl e
+  where
+    go : (o : Option Part) → next_part part b ≡ o → (option_map_or (λ p. goes (at k (Number p (ds ++ b ∷ []) from))) o (ended_move k part ds from b)).breaks ≡ Some l → HasFault bytes (limit_fault l)
+    go None f h = number_fault bytes x (b ∷ rest) k part ds from l is leads f h
+    go (Some p) f h = absurd cc
+
+byte_fault : (bytes x rest : List ℕ) (b : ℕ) (k : List Frame) (mode : Mode) (l : Limit) → bytes ≡ x ++ b ∷ rest → Clean x 0 start (at k mode) → (step_in k mode (length x) b).breaks ≡ Some l → HasFault bytes (limit_fault l)
+byte_fault bytes x rest b k Value l is clean e = let leads = clean_leads clean in deep_fault bytes x rest b (at k Value) k l is clean (awaits_value k x (start_fits leads) (reads_from_start x (at k Value) leads)) ((begin_nests k (length x) b).nests l e)
+byte_fault bytes x rest b k First l is clean e = let leads = clean_leads clean in deep_fault bytes x rest b (at k First) k l is clean (awaits_first k x (start_fits leads) (reads_from_start x (at k First) leads)) ((first_nests k (length x) b).nests l e)
+byte_fault bytes x rest b k FirstName l is clean e = absurd cc
+byte_fault bytes x rest b k Name l is clean e = absurd cc
+byte_fault bytes x rest b k Colon l is clean e = absurd cc
+byte_fault bytes x rest b k (Word y) l is clean e = absurd cc
+byte_fault bytes x rest b k (Number part ds from) l is clean e = number_byte bytes x rest b k part ds from l is (clean_leads clean) e
+byte_fault bytes x rest b k (Quoted is_name piece name from) l is clean e =
+    let leads = clean_leads clean in
+    (quoted_twice bytes x rest b k is_name piece name from (length x) is (start_fits leads) (reads_from_start x (at k (Quoted is_name piece name from)) leads)).double l e
+byte_fault bytes x rest b k (After v) l is clean e = absurd cc
+
+pub limit_has : (bytes x rest : List ℕ) (t : State) (l : Limit) → bytes ≡ x ++ rest → Clean x 0 start t → BreaksAt rest (length x) t l → HasFault bytes (limit_fault l)
+unfolding step_of end_breaks
+limit_has bytes x [] t l is clean e = end_fault bytes x t.stack t.mode l (is ∙ append-nil x) (clean_leads clean) e
+limit_has bytes x (b ∷ rest) t l is clean e = byte_fault bytes x rest b t.stack t.mode l is clean e
