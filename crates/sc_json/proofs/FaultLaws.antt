@@ -108,7 +108,7 @@ one_first bytes f g x y = let a = x.first g y.has in let b = y.first f x.has in 
 
 -- ---- bytes that aren't UTF-8
 
-no_cut : (bytes : List ℕ) (p : ℕ) → IsCut bytes p → IsUtf8 bytes → ⊥
+pub no_cut : (bytes : List ℕ) (p : ℕ) → IsCut bytes p → IsUtf8 bytes → ⊥
 no_cut bytes p c u =
     let le = c.longest (length bytes) (omega arith) (subst IsUtf8 (sym (take_all (length bytes) bytes (omega arith))) u) in
     let lt = c.within in

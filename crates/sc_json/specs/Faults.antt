@@ -1,6 +1,6 @@
 -- The faults of a JSON text and their places. Of all faults that hold the one with the least place is answered, but that
 -- of bytes which aren't UTF-8 comes before all others.
-use Rattle.std.specs.Prelude.{◌≡◌, ◌⊎◌, ℕ, ◌+◌, ◌<◌, ◌≤◌, List, [], ◌∷◌, ◌++◌, length, take, true, IsUtf8}
+use Rattle.std.specs.Prelude.{◌≡◌, ◌⊎◌, ℕ, ◌+◌, ◌<◌, ◌≤◌, List, [], ◌∷◌, ◌++◌, length, take, true, IsUtf8, Result, Ok, Err}
 use Rattle.std.specs.List.{Any}
 use Rattle.sc_decimal.specs.Value.{is_wide}
 use Rattle.sc_json.specs.declared.tree.Json.{Json}
@@ -9,6 +9,7 @@ use Rattle.sc_json.specs.declared.fault.JsonFault.{JsonFault}
 use Rattle.sc_json.specs.declared.fault.JsonFault.TheVariants.{Syntax, Duplicate, TooDeep, NumberTooWide, NotUtf8, OutOfMemory}
 use Rattle.sc_json.specs.Grammar.{AreBlanks, Quoted, Literal, Padded, Begun, Named}
 use Rattle.sc_json.specs.Fronts.{IsLongestFront}
+use Rattle.sc_json.specs.Spells.{Spells}
 
 -- bytes behind which a value may begin, and how many lists and objects are open there
 pub data Awaits : List ℕ → ℕ → Type 0 where
@@ -90,3 +91,9 @@ pub record IsCut (bytes : List ℕ) (at : ℕ) : Type 0 where
 abbrev pub JsonFaultOf : List ℕ → JsonFault → Type 0
 JsonFaultOf bytes (NotUtf8 at) = IsCut bytes at
 JsonFaultOf bytes fault = IsUtf8 bytes × IsFirstFault bytes fault
+
+-- what a reader answers of bytes: the good tree that they spell, their fault, or that memory ran out
+abbrev pub Answers : List ℕ → Result Json JsonFault → Type 0
+Answers bytes (Ok tree) = Spells bytes tree
+Answers bytes (Err OutOfMemory) = Unit {0}
+Answers bytes (Err fault) = JsonFaultOf bytes fault
