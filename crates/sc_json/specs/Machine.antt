@@ -1,6 +1,6 @@
 -- The reader as a machine, which takes one byte after another. A move says which state comes next, by the grammar
 -- alone, and which limit the byte breaks, if any.
-use Rattle.std.specs.Prelude.{◌≡◌, ℕ, ◌+◌, ◌-◌, ◌≤◌, List, [], ◌∷◌, ◌++◌, length, take, drop, Bool, true, false, ◌&&◌, ◌||◌, ◌==◌, nat_le, if◌then◌else◌, Option, Some, None, Result, Ok, Err}
+use Rattle.std.specs.Prelude.{◌≡◌, ℕ, ◌+◌, ◌-◌, ◌≤◌, List, [], ◌∷◌, ◌++◌, length, take, drop, Bool, true, false, ◌&&◌, ◌==◌, nat_le, if◌then◌else◌, Option, Some, None, Result, Ok, Err}
 use Rattle.std.specs.Option.{option_map_or}
 use Rattle.sc_base.specs.Text.{text_of}
 use Rattle.sc_decimal.specs.Value.{number_of, is_number, is_wide}
@@ -24,6 +24,7 @@ use Rattle.sc_json.specs.declared.fault.JsonFault.{JsonFault}
 use Rattle.sc_json.specs.declared.fault.JsonFault.TheVariants as faults
 use Rattle.sc_json.specs.declared.fault.StepFault.{StepFault}
 use Rattle.sc_json.specs.declared.fault.StepFault.TheVariants as steps
+pub use Rattle.sc_json.specs.Characters.{is_blank_byte}
 pub use Rattle.sc_json.specs.Names.{has_name}
 use Rattle.sc_json.specs.Hex.{utf8_of}
 use Rattle.sc_json.specs.Pieces.{piece_of}
@@ -47,9 +48,6 @@ goes s = record { next = Some s; breaks = None }
 
 abbrev pub refused : Move
 refused = record { next = None; breaks = None }
-
-abbrev pub is_blank_byte : ℕ → Bool
-is_blank_byte b = (b == 32) || (b == 9) || (b == 10) || (b == 13)
 
 -- a list or an object begins at this place
 abbrev pub nested : List Frame → Frame → Mode → ℕ → Move

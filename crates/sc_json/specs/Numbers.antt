@@ -1,10 +1,8 @@
 -- A number, a byte at a time (RFC 8259 §6).
-use Rattle.std.specs.Prelude.{ℕ, List, [], ◌∷◌, Bool, true, false, ◌&&◌, ◌==◌, nat_le, if◌then◌else◌, Option, Some, None, option_and_then}
+use Rattle.std.specs.Prelude.{ℕ, List, [], ◌∷◌, Bool, true, false, ◌==◌, if◌then◌else◌, Option, Some, None, option_and_then}
+pub use Rattle.sc_json.specs.Characters.{is_digit_byte}
 use Rattle.sc_json.specs.declared.state.Part.{Part}
 use Rattle.sc_json.specs.declared.state.Part.TheVariants.{Minus, Zero, Whole, Point, Fraction, Mark, Sign, Power}
-
-abbrev pub is_digit_byte : ℕ → Bool
-is_digit_byte b = nat_le 48 b && nat_le b 57
 
 abbrev pub mark_of : ℕ → Option Part
 mark_of b = if b == 101 then Some Mark else (if b == 69 then Some Mark else None)

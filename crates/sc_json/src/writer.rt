@@ -1,5 +1,7 @@
 ghost use Rattle.std.specs.Prelude.{◌≡◌, ◌++◌, IfOk, OnOk, string_bytes};
 ghost use Rattle.sc_json.specs.Compact.{compact, elements_text, members_text, member_text};
+ghost use Rattle.sc_json.specs.Good.{Good};
+ghost use Rattle.sc_json.specs.Spells.{Spells};
 
 use crate::quote::push_quoted;
 use crate::tree::{Json, Member};
@@ -74,9 +76,10 @@ fn push_member(out: &mut String, member: &Member) -> Result<(), AllocError>
     Ok(())
 }
 
-/// The compact text of a tree, which reads as the same tree where the tree is good.
+/// The compact text of a tree. That of a good tree spells it, so that it is read as the same tree.
 pub fn write_json(alloc: Global, tree: &Json) -> Result<Text, AllocError>
-    ensures { IfOk result (λ text. text ≡ compact tree.now) }
+    ensures text { IfOk result (λ text. text ≡ compact tree.now) }
+    ensures spells { Good tree.now → IfOk result (λ text. Spells text tree.now) }
 {
     let mut out = String::new(alloc);
     push_json(&mut out, tree)?;
