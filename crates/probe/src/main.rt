@@ -6,6 +6,7 @@
 
 mod json;
 mod numbers;
+mod times;
 
 use std::alloc::{AllocError, Global};
 use std::io;
@@ -17,6 +18,9 @@ fn answer(alloc: Global, kind: &[u8], input: &[u8]) -> Result<Option<String>, Al
         b"dec" => Ok(Some(numbers::dec(alloc, input)?)),
         b"dec-order" => numbers::dec_order(alloc, input),
         b"json" => Ok(Some(json::json(alloc, input)?)),
+        b"instant" => Ok(Some(times::instant(alloc, input)?)),
+        b"date" => Ok(Some(times::date(alloc, input)?)),
+        b"range" => Ok(Some(times::range(alloc, input)?)),
         _ => Ok(None),
     }
 }
