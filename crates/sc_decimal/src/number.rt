@@ -1,6 +1,6 @@
 ghost use Rattle.std.specs.Prelude.{◌≡◌, ◌<◌, ◌^◌, pos, negsuc, ◌≤ℤ◌};
 
-use crate::grid::{scaled_down, scaled_up, signed};
+use crate::grid::to_grid;
 use crate::reading::read;
 use crate::scale::{compare_scaled, shifted};
 use std::cmp::Ordering;
@@ -35,6 +35,7 @@ impl Model for Dec {
 impl Dec {
     ghost use Rattle.sc_decimal.specs.Number.{dec_cmp};
     ghost use Rattle.sc_decimal.specs.Value.{Answers};
+    ghost use Rattle.sc_decimal.specs.Grid.{IsOnGrid, grid_of};
 
     /// The number of a sign, digits and an exponent.
     pub fn new(neg: bool, m: u128, e: i32) -> Dec
@@ -83,12 +84,12 @@ impl Dec {
         }
     }
 
-    /// The whole number nearest to the value times 10^7, ties away from zero.
-    pub fn to_grid(&self) -> Option<i64> {
-        let up = self.e + 7;
-        if up >= 0 {
-            return signed(self.neg, scaled_up(self.m, up as u32));
-        }
-        signed(self.neg, scaled_down(self.m, (-up) as u32))
+    /// The whole number nearest to the value times 10^7, ties away from zero; `None` exactly
+    /// where that is above 3,600,000,000 in magnitude.
+    pub fn to_grid(&self) -> Option<i64>
+        ensures nearest { IsOnGrid self.now result }
+        ensures value { result ≡ grid_of self.now }
+    {
+        to_grid(self.neg, self.m, self.e)
     }
 }
