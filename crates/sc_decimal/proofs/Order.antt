@@ -160,10 +160,10 @@ signed_same true true zero y e some = absurd (omega arith)
 signed_same true true (suc x) zero e some = absurd (omega (arith, ints))
 signed_same true true (suc x) (suc y) e some = (refl, omega (arith, ints))
 
-int_equal : (x y : ℤ) → int_cmp x y ≡ Equal → x ≡ y
+pub int_equal : (x y : ℤ) → int_cmp x y ≡ Equal → x ≡ y
 int_equal x y e = subst (λ (r : Ordering). MatchOrdering r (x <ℤ y) (x ≡ y) (y <ℤ x)) e (int_ranks x y)
 
-equal_int : (x y : ℤ) → x ≡ y → int_cmp x y ≡ Equal
+pub equal_int : (x y : ℤ) → x ≡ y → int_cmp x y ≡ Equal
 equal_int x y e = sym (int_cmp_is x y Equal e)
 
 -- a multiple of ten isn't normal

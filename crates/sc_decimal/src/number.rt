@@ -98,6 +98,7 @@ impl Ord for Dec {
 
 impl Dec {
     ghost use Rattle.sc_decimal.specs.Number.{IsDec, order_of};
+    ghost use Rattle.sc_decimal.specs.Numeral.{Reads};
     ghost use Rattle.sc_decimal.specs.Value.{Answers};
     ghost use Rattle.sc_decimal.specs.Grid.{IsOnGrid, grid_of};
 
@@ -131,9 +132,13 @@ impl Dec {
         self.e
     }
 
-    /// Reads a number.
+    /// Reads a number: an optional sign, digits with an optional point and digits or a point and
+    /// digits, and an optional exponent. `NotANumber` exactly where the text is none;
+    /// `NumberTooWide` exactly where the number has more than 34 digits, not counting zeros before
+    /// and behind the others, or its exponent then isn't from -6000 to 6000.
     pub fn read(text: &[u8]) -> Result<Dec, NumFault>
-        ensures { Answers text.now result }
+        ensures numeral { Reads text.now result }
+        ensures answer { Answers text.now result }
     {
         read(text)
     }
