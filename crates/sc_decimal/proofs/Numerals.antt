@@ -83,11 +83,11 @@ none_in l x e = ap (λ (k : ℕ). signed x.neg (k * 10 ^ above x.e l)) e ∙ ap 
     none false = refl
     none true = refl
 
-zero_equal : (x : Number) → x.m ≡ 0 → order_of zero_number x ≡ Equal
+pub zero_equal : (x : Number) → x.m ≡ 0 → order_of zero_number x ≡ Equal
 unfolding order_of
 zero_equal x e = equal_int _ _ (none_in (int_min (pos 0) x.e) zero_number refl ∙ sym (none_in (int_min (pos 0) x.e) x e))
 
-scaled_equal : (neg : Bool) (m z v : ℕ) (high low : ℤ) → high ≡ low +ℤ pos z → m * 10 ^ z ≡ v → order_of (record { neg = neg; m = m; e = high }) (record { neg = neg; m = v; e = low }) ≡ Equal
+pub scaled_equal : (neg : Bool) (m z v : ℕ) (high low : ℤ) → high ≡ low +ℤ pos z → m * 10 ^ z ≡ v → order_of (record { neg = neg; m = m; e = high }) (record { neg = neg; m = v; e = low }) ≡ Equal
 scaled_equal neg m z v high low is e =
     let le : low ≤ℤ high = omega (arith, ints) in
     let a = above_is high low le in

@@ -1,6 +1,7 @@
 -- Decimal numbers: what they stand for, their order, and the one form that each is kept in.
-use Rattle.std.specs.Prelude.{◌≡◌, ℕ, ◌*◌, ◌%◌, ◌^◌, ◌<◌, ℤ, pos, negsuc, ◌-ℤ◌, neg_ℤ, ◌≤ℤ◌, Bool, true, false}
+use Rattle.std.specs.Prelude.{◌≡◌, ℕ, ◌*◌, ◌%◌, ◌^◌, ◌<◌, ℤ, pos, negsuc, suc, ◌-ℤ◌, neg_ℤ, ◌≤ℤ◌, Bool, true, false, Option, Some, None}
 use Rattle.std.specs.declared.cmp.Ordering.{Ordering}
+use Rattle.std.specs.declared.cmp.Ordering.TheVariants.{Equal}
 use Rattle.std.specs.Ordering.{int_cmp}
 use Rattle.std.specs.Cmp.{IsTotalOrder, on_total, int_cmp_total}
 use Rattle.std.specs.Int.{int_min}
@@ -71,3 +72,13 @@ pub record IsNarrow (n : Number) : Type 0 where
 pub record IsDec (n : Number) : Type 0 where
   pub normal : IsNormal n
   pub narrow : IsNarrow n
+
+-- what is kept of any number: the equal one; none where no kept number is equal
+abbrev pub IsKept : Number → Option Number → Type 0
+IsKept n (Some d) = IsDec d × (order_of d n ≡ Equal)
+IsKept n None = (d : Number) → IsDec d → order_of d n ≡ Equal → ⊥
+
+-- a whole number
+abbrev pub integer : ℤ → Number
+integer (pos n) = record { neg = false; m = n; e = pos 0 }
+integer (negsuc n) = record { neg = true; m = suc n; e = pos 0 }

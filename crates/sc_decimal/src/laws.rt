@@ -5,6 +5,7 @@ ghost use Rattle.std.specs.declared.cmp.Ordering.TheVariants.{Equal};
 ghost use Rattle.sc_decimal.specs.Number.{Number, IsDec, dec_cmp, order_of};
 ghost use Rattle.sc_decimal.specs.Grid.{IsOnGrid};
 ghost use Rattle.sc_decimal.specs.Numeral.{Sign, Mantissa, Exponent, IsNumeral};
+ghost use Rattle.sc_decimal.specs.Literal.{literal_of};
 ghost use Rattle.sc_decimal.specs.Value.{is_number, number_of, is_narrow, is_wide};
 
 /// A number has one place on the grid, or none.
@@ -38,4 +39,10 @@ pub fn numeral_tests()
 /// empty. The numbers of RFC 8259, section 6, are of this form.
 pub fn parts_number()
     ensures { (s m ds x : List ℕ) (neg : Bool) (p : ℕ) (e : ℤ) → Sign s neg → Mantissa m ds p → Exponent x e → is_number (s ++ (m ++ x)) ≡ true }
+{}
+
+/// A number's literal is its text, and two numbers with one literal are the same.
+pub fn one_literal()
+    ensures reads { (n : Number) → IsDec n → IsNumeral (literal_of n) n }
+    ensures same { (a b : Number) → IsDec a → IsDec b → literal_of a ≡ literal_of b → a ≡ b }
 {}

@@ -1,9 +1,12 @@
-ghost use Rattle.std.specs.Prelude.{◌≡◌, ◌<◌, ◌≤◌, ◌^◌, pos, negsuc, ◌≤ℤ◌, ◌↔◌, IsTrue};
+ghost use Rattle.std.specs.Prelude.{◌≡◌, ◌<◌, ◌≤◌, ◌^◌, pos, negsuc, ◌≤ℤ◌, ◌↔◌, ◌++◌, IsTrue, OnOk, OnErr};
 ghost use Rattle.sc_decimal.specs.Number.{dec_cmp};
 
 use crate::grid::to_grid;
+use crate::literal::push_literal;
+use crate::make;
 use crate::reading::read;
 use crate::scale::compare_magnitudes;
+use std::alloc::AllocError;
 use std::cmp::Ordering;
 use std::marker::Model;
 
@@ -97,8 +100,9 @@ impl Ord for Dec {
 }
 
 impl Dec {
-    ghost use Rattle.sc_decimal.specs.Number.{IsDec, order_of};
-    ghost use Rattle.sc_decimal.specs.Numeral.{Reads};
+    ghost use Rattle.sc_decimal.specs.Number.{IsDec, IsKept, integer, order_of};
+    ghost use Rattle.sc_decimal.specs.Numeral.{Reads, IsNumeral};
+    ghost use Rattle.sc_decimal.specs.Literal.{literal_of};
     ghost use Rattle.sc_decimal.specs.Value.{Answers};
     ghost use Rattle.sc_decimal.specs.Grid.{IsOnGrid, grid_of};
 
@@ -108,6 +112,23 @@ impl Dec {
         ensures { result ≡ record { neg = neg; m = m; e = e } }
     {
         Dec { neg, m, e }
+    }
+
+    /// The number `m * 10^e`, negated where `neg`; `None` exactly where it can't be kept, since it
+    /// has more than 34 digits, not counting zeros behind them, or an exponent that isn't from
+    /// -6000 to 6000.
+    pub fn of_parts(neg: bool, m: u128, e: i32) -> Option<Dec>
+        ensures { IsKept (record { neg = neg; m = m; e = e }) result }
+    {
+        make::of_parts(neg, m, e)
+    }
+
+    /// A whole number; `None` exactly where it has more than 34 digits, not counting zeros behind
+    /// them.
+    pub fn of_integer(number: i128) -> Option<Dec>
+        ensures { IsKept (integer number) result }
+    {
+        make::of_integer(number)
     }
 
     /// Whether the number is negative.
@@ -154,6 +175,17 @@ impl Dec {
             (false, false) => compare_magnitudes(self.m, self.e, other.m, other.e),
             (true, true) => compare_magnitudes(other.m, other.e, self.m, self.e),
         }
+    }
+
+    /// Writes the canonical literal at the end of `out`: `-` where the number is negative, the
+    /// digits, and `E` and the exponent where that isn't 0. It reads back as the same number.
+    /// Want of memory leaves `out` as it was.
+    pub fn push_literal(&self, out: &mut Vec<u8>) -> Result<(), AllocError>
+        ensures ok { OnOk result (out.new.items ≡ out.old.items ++ literal_of self.now) }
+        ensures err { OnErr result (out.new.items ≡ out.old.items) }
+        ensures reads { IsNumeral (literal_of self.now) self.now }
+    {
+        push_literal(self.neg, self.m, self.e, out)
     }
 
     /// The whole number nearest to the value times 10^7, ties away from zero; `None` exactly

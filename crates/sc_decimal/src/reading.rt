@@ -164,7 +164,7 @@ fn exponent(below: bool, power: u128, zeros: u64, places: u64) -> i128
 }
 
 /// The number of digits that don't end in a zero, where its exponent is in range.
-fn with_exponent(neg: bool, m: u128, e: i128) -> Result<Dec, NumFault>
+pub(crate) fn with_exponent(neg: bool, m: u128, e: i128) -> Result<Dec, NumFault>
     requires digits { m < 10 ^ 34 }
     requires trimmed { m % 10 ≢ 0 }
     ensures { AnswersNumber (record { neg = neg; m = m; e = e }) result }
