@@ -4,6 +4,7 @@
 //! line of answer. A kind that isn't known, and an input that isn't of its kind's outer shape, answers `skip`.
 #![tactic(auto)]
 
+mod geometries;
 mod json;
 mod numbers;
 mod times;
@@ -21,6 +22,8 @@ fn answer(alloc: Global, kind: &[u8], input: &[u8]) -> Result<Option<String>, Al
         b"instant" => Ok(Some(times::instant(alloc, input)?)),
         b"date" => Ok(Some(times::date(alloc, input)?)),
         b"range" => Ok(Some(times::range(alloc, input)?)),
+        b"geojson" => Ok(Some(geometries::geojson(alloc, input)?)),
+        b"bbox" => geometries::bbox(alloc, input),
         _ => Ok(None),
     }
 }
