@@ -1,5 +1,5 @@
 use crate::{Seq, Text, flat_page, page_text};
-use sc_item::{DateTime, Item};
+use sc_item::{DateTime, Item, first_repeat};
 use std::alloc::{AllocError, Global};
 use std::test::Fail;
 
@@ -27,6 +27,9 @@ fn a_page_has_the_latest_items(rt: HostRuntime) -> Result<(), Fail> {
     items.push(item(alloc, "z", 1)?)?;
     items.push(item(alloc, "b", 2)?)?;
     items.push(item(alloc, "a", 2)?)?;
+    if let Some(_) = first_repeat(alloc, items.as_slice())? {
+        panic!(rt; "two of the items have one name");
+    }
     let page = flat_page(Seq::of(items), 2)?;
     assert_eq!(rt;
         page_text(alloc, page.as_slice())?.as_str(),
