@@ -1,5 +1,5 @@
 -- Which instants have a key, and which keys instants have.
-use Rattle.std.proofs.Common.{rules, ◌≡◌, ◌↔◌, ℕ, ◌+◌, ◌-◌, ◌*◌, ◌<◌, ◌≤◌, inl, inr, refl, sym, ◌∙◌, subst, arith, ℤ, pos, negsuc, neg_ℤ, ◌+ℤ◌, ◌-ℤ◌, ◌*ℤ◌, ◌≤ℤ◌, ◌<ℤ◌, Option, Some, None, cond, true, false, Bool, ◌&&◌, int_le, int_lt, unsigned_abs, IsTrue}
+use Rattle.std.proofs.Common.{rules, ◌≡◌, ◌↔◌, ℕ, ◌+◌, ◌*◌, ◌≤◌, inl, inr, sym, ◌∙◌, subst, arith, ℤ, pos, ◌+ℤ◌, ◌-ℤ◌, ◌*ℤ◌, ◌≤ℤ◌, ◌<ℤ◌, Option, Some, None, cond, true, ◌&&◌, int_le, int_lt, unsigned_abs, IsTrue}
 use Rattle.std.proofs.lemmas.Int.{ints}
 use Rattle.std.proofs.lemmas.Bool.{cases_lt}
 use Rattle.jiff_core.proofs.SignedLemmas.{signed_arith}
@@ -10,7 +10,7 @@ use Rattle.sc_time.specs.Instant.{IsInstant, IsInYear, IsInMonth, year_start, mo
 use Rattle.sc_time.proofs.Periods.{first_year, end_of_years, same_year, same_month}
 use Rattle.sc_cut.specs.declared.cut.Cut.{Cut}
 use Rattle.sc_cut.specs.declared.cut.Cut.TheVariants.{Whole, Year, Month}
-use Rattle.sc_cut.specs.Key.{HasKey, IsKey, first_with, end_of, has_key}
+use Rattle.sc_cut.specs.Key.{HasKey, IsKey, has_key}
 use Rattle.sc_cut.specs.Span.{LiesIn, span}
 use Rattle.sc_cut.proofs.Months.{month_start-mono, month_start-nonempty, year_start-month, year_start-next, first_month, end_of_months}
 

@@ -1,5 +1,5 @@
 -- Where months and years begin and end.
-use Rattle.std.proofs.Common.{◌≡◌, ℕ, zero, suc, ◌+◌, ◌-◌, ◌*◌, ◌/◌, ◌%◌, ◌<◌, ◌≤◌, inl, inr, refl, sym, ◌∙◌, ap, arith, ℤ, pos, neg_ℤ, ◌+ℤ◌, ◌-ℤ◌, ◌*ℤ◌, ◌≤ℤ◌, ◌<ℤ◌}
+use Rattle.std.proofs.Common.{◌≡◌, ℕ, zero, suc, ◌+◌, ◌-◌, ◌*◌, ◌/◌, ◌%◌, ◌≤◌, inl, inr, refl, sym, ◌∙◌, ap, arith, ℤ, pos, neg_ℤ, ◌+ℤ◌, ◌≤ℤ◌, ◌<ℤ◌}
 use Rattle.std.proofs.lemmas.Bool.{cases_lt}
 use Rattle.std.specs.Int.{IsInRange}
 use Rattle.std.specs.Prelude.{min}
@@ -8,9 +8,9 @@ use Rattle.jiff_core.specs.Date.{epoch_day}
 use Rattle.jiff_core.specs.declared.civil.date.Date.{Date}
 use Rattle.jiff_core.proofs.SignedLemmas.{signed_arith}
 use Rattle.sc_time.specs.Calendar.{days_of_month, days_before_date, day_number}
-use Rattle.sc_time.specs.Instant.{IsDayNumber, IsInstant, IsInYear, IsInMonth, midnight, year_start, month_start, month_key}
-use Rattle.sc_time.proofs.Calendars.{day_number-parts, day_number-days_from_civil, found_range}
-use Rattle.sc_time.proofs.Periods.{first_of_next_month, first_of_next_year, month_start-key, january_start, first_year, end_of_years}
+use Rattle.sc_time.specs.Instant.{IsDayNumber, midnight, year_start, month_start, month_key}
+use Rattle.sc_time.proofs.Calendars.{day_number-days_from_civil, found_range}
+use Rattle.sc_time.proofs.Periods.{first_of_next_month, first_of_next_year, january_start, first_year, end_of_years}
 
 -- the month of a number begins at midnight of its first day
 pub month_start-first : (key : ℕ) → month_start key ≡ midnight (day_number (key / 12) (key % 12 + 1) 1)

@@ -1,4 +1,4 @@
-use Rattle.std.proofs.Common.{arith, ◌≡◌, ◌+◌, ◌/◌, ◌%◌, pos, to_z-of_z, FitsSigned, w32}
+use Rattle.std.proofs.Common.{arith, to_z-of_z, FitsSigned, w32}
 use Rattle.std.proofs.lemmas.Int.{ints}
 use Rattle.jiff_core.proofs.SignedLemmas.{signed_arith}
 use Rattle.sc_cut.proofs.Months.{day_found, day_in_range}

@@ -1,6 +1,5 @@
-use Rattle.std.proofs.Common.{arith, ◌≡◌, ◌+◌, ◌/◌, ◌%◌, pos}
+use Rattle.std.proofs.Common.{arith, ◌≡◌, ◌+◌, ◌/◌, ◌%◌}
 use Rattle.std.specs.Prelude.{min}
-use Rattle.std.proofs.lemmas.Int.{ints}
 use Rattle.jiff_core.proofs.SignedLemmas.{signed_arith}
 use Rattle.sc_time.specs.Calendar.{days_of_month, day_number}
 use Rattle.sc_cut.proofs.Months.{month_start-next, month_length}

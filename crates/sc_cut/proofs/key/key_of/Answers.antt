@@ -1,4 +1,4 @@
-use Rattle.std.proofs.Common.{◌≡◌, sym, subst, arith}
+use Rattle.std.proofs.Common.{subst, arith}
 use Rattle.std.proofs.lemmas.Int.{ints}
 use Rattle.sc_cut.specs.declared.cut.Cut.{Cut}
 use Rattle.sc_cut.specs.declared.cut.Cut.TheVariants.{Year, Month}

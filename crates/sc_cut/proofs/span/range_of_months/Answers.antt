@@ -1,4 +1,4 @@
-use Rattle.std.proofs.Common.{arith, ◌+◌, ◌≤ℤ◌, FitsSigned, to_z-of_z}
+use Rattle.std.proofs.Common.{arith, ◌≤ℤ◌, FitsSigned, to_z-of_z}
 use Rattle.std.specs.Int.{w128}
 use Rattle.jiff_core.proofs.SignedLemmas.{signed_arith}
 use Rattle.sc_cut.proofs.Keys.{is_range}
