@@ -1,18 +1,20 @@
 -- Bounds: joins, meets and hulls.
-use Rattle.std.proofs.Common.{◌≡◌, ◌↔◌, refl, ℤ, Option, Some, None, List, [], ◌∷◌, ◌++◌, arith, subst, sym}
+use Rattle.std.proofs.Common.{ℕ, ◌+◌, ◌<◌, length, get_or, take, ap, ◌∙◌, ◌≡◌, ◌↔◌, refl, ℤ, Option, Some, None, List, [], ◌∷◌, ◌++◌, arith, subst, sym, append_assoc, append-nil}
 use Rattle.std.specs.Prelude.{All}
 use Rattle.std.specs.List.{fold}
 use Rattle.std.proofs.lemmas.Int.{ints}
+use Rattle.std.proofs.lemmas.List.{take_more}
+use Rattle.std.proofs.lemmas.List.Sums.{fold_more}
 use Rattle.std.proofs.lemmas.List.Elements.{All-nil, All-cons, All-head, All-tail, All-push, All-weaker}
 use Rattle.sc_geom.specs.declared.point.Pt.{Pt}
 use Rattle.sc_geom.specs.Rectangle.{Rectangle}
 use Rattle.sc_bounds.specs.declared.reach.Reach.{Reach}
-use Rattle.sc_bounds.specs.Moments.{HasMoment, AreMoments}
-use Rattle.sc_bounds.specs.Places.{HasPoint, IsPlace}
+use Rattle.sc_bounds.specs.Moments.{HasMoment, AreMoments, moments_join, moments_meet}
+use Rattle.sc_bounds.specs.Places.{HasPoint, IsPlace, place_join, place_meet}
 use Rattle.sc_bounds.specs.Extent.{Extent, AreBounds, empty}
 use Rattle.sc_bounds.specs.Sets.{AreMomentsOf, ArePointsOf, Covers, IsWithin, IsHull, IsWidened, IsJoin, IsMeet, IsReach, join_of, meet_of, only, hull}
-use Rattle.sc_bounds.proofs.Moments as moments
-use Rattle.sc_bounds.proofs.Places as places
+use Rattle.sc_bounds.proofs.MomentSets as moments
+use Rattle.sc_bounds.proofs.PointSets as places
 
 pub within_itself : (a : Extent) → IsWithin a a
 within_itself a = record { starts = λ at h. h; ends = λ at h. h; place = λ point h. h }
@@ -24,12 +26,19 @@ within_chain a b d h k = record {
   place = λ point x. k.place point (h.place point x);
 }
 
+parts : (s e s' e' : Option (ℤ × ℤ)) (p p' : Option Rectangle) → s ≡ s' → e ≡ e' → p ≡ p' →
+    (let a : Extent = record { starts = s; ends = e; place = p } in let b : Extent = record { starts = s'; ends = e'; place = p' } in a ≡ b)
+parts s e s' e' p p' starts ends place = rw (starts, ends, place) refl
+
+pub same_parts : (a b : Extent) → a.starts ≡ b.starts → a.ends ≡ b.ends → a.place ≡ b.place → a ≡ b
+same_parts a b starts ends place = parts a.starts a.ends b.starts b.ends a.place b.place starts ends place
+
 pub same_bounds : (a b : Extent) → AreBounds a → AreBounds b → IsWithin a b → IsWithin b a → a ≡ b
 same_bounds a b ok ok' h k =
     let starts = moments.same_moments a.starts b.starts ok.starts ok'.starts h.starts k.starts in
     let ends = moments.same_moments a.ends b.ends ok.ends ok'.ends h.ends k.ends in
     let place = places.same_place a.place b.place ok.place ok'.place h.place k.place in
-    cc
+    same_parts a b starts ends place
 
 pub covers_wider : (a b : Extent) (reach : Reach) → IsWithin a b → Covers a reach → Covers b reach
 covers_wider a b reach h is = record {
@@ -170,3 +179,41 @@ hull_more wide b reaches reach is more = record {
   covers = All-push (Covers wide) reaches reach (All-weaker (Covers b) (Covers wide) (λ x. covers_wider b wide x more.holds) reaches is.covers) more.covers;
   least = λ other all. more.least other (is.least other (all_front (Covers other) reaches reach all)) (all_last (Covers other) reaches reach all);
 }
+
+empty_bounds : AreBounds empty
+empty_bounds = record { starts = tt; ends = tt; place = tt }
+
+pub hull_all : (b : Extent) (before after : List Reach) → AreBounds b → IsHull b before → All IsReach after →
+    IsHull (fold (λ wide reach. join_of wide (only reach)) b after) (before ++ after) × AreBounds (fold (λ wide reach. join_of wide (only reach)) b after)
+hull_all b before [] ok is all = rw (append-nil before) (is, ok)
+hull_all b before (x ∷ after) ok is all =
+    let reach = All-head IsReach x after all in
+    let more = hull_more (join_of b (only x)) b before x is (widened b x ok reach) in
+    let rest = hull_all (join_of b (only x)) (before ++ x ∷ []) after (join_bounds b (only x) ok (only_bounds x reach)) more (All-tail IsReach x after all) in
+    rw append_assoc at rest
+
+pub hull_is : (reaches : List Reach) → All IsReach reaches → IsHull (hull reaches) reaches
+hull_is reaches all = (hull_all empty [] reaches empty_bounds hull_none all).0
+
+pub hull_bounds : (reaches : List Reach) → All IsReach reaches → AreBounds (hull reaches)
+hull_bounds reaches all = (hull_all empty [] reaches empty_bounds hull_none all).1
+
+-- what the code makes part by part
+pub joined : (a b a' b' r : Extent) → a ≡ a' → b ≡ b' → r.starts ≡ moments_join a.starts b.starts → r.ends ≡ moments_join a.ends b.ends → r.place ≡ place_join a.place b.place → r ≡ join_of a' b'
+unfolding join_of
+joined a b a' b' r same same' starts ends place = rw (← same, ← same') (same_parts r (join_of a b) starts ends place)
+
+pub met : (a b a' b' r : Extent) → a ≡ a' → b ≡ b' → r.starts ≡ moments_meet a.starts b.starts → r.ends ≡ moments_meet a.ends b.ends → r.place ≡ place_meet a.place b.place → r ≡ meet_of a' b'
+unfolding meet_of
+met a b a' b' r same same' starts ends place = rw (← same, ← same') (same_parts r (meet_of a b) starts ends place)
+
+-- one reach more
+pub hull_step : (w b : Extent) (xs : List Reach) (i : ℕ) (reach : Reach) → i < length xs → reach ≡ get_or xs i reach → b ≡ hull (take i xs) → w ≡ join_of b (only reach) → w ≡ hull (take (i + 1) xs)
+hull_step w b xs i reach lt is old new =
+    let step = fold_more (λ (wide : Extent) (r : Reach). join_of wide (only r)) empty xs i reach lt in
+    new ∙ ap (λ x. join_of x (only reach)) old ∙ ap (λ r. join_of (hull (take i xs)) (only r)) is ∙ sym step
+
+pub least_step : (w b : Extent) (xs : List Reach) (i : ℕ) (reach : Reach) → i < length xs → reach ≡ get_or xs i reach → IsHull b (take i xs) → IsWidened w b reach → IsHull w (take (i + 1) xs)
+least_step w b xs i reach lt is old new =
+    let front : take i xs ++ reach ∷ [] ≡ take (i + 1) xs = ap (λ r. take i xs ++ r ∷ []) is ∙ sym (take_more xs i reach lt) in
+    subst (IsHull w) front (hull_more w b (take i xs) reach old new)

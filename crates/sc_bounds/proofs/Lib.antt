@@ -1,3 +1,3 @@
-pub mod Moments
-pub mod Places
+pub mod MomentSets
+pub mod PointSets
 pub mod Extents

@@ -1,20 +1,35 @@
 //! Sets of grid points: none, or all in a box.
-ghost use Rattle.std.specs.Prelude.{◌≡◌, ◌↔◌, IsTrue, Some, None, if◌then◌else◌};
-ghost use Rattle.sc_geom.specs.Rectangle.{IsWithin, IsBox};
+ghost use Rattle.std.specs.Prelude.{◌≡◌, ◌↔◌, ◌≤ℤ◌, IsTrue, false, Some, None, if◌then◌else◌};
+ghost use Rattle.sc_geom.specs.Point.{IsLatitude, IsLongitude};
+ghost use Rattle.sc_geom.specs.Rectangle.{IsWithin, IsBox, Rectangle};
 ghost use Rattle.sc_bounds.specs.Places.{IsPlace, box_join, box_meet, has_points, place_join, place_meet};
 ghost use Rattle.sc_bounds.specs.Sets.{ArePointsOf};
 
 use sc_geom::GridBox;
+
+/// Whether a part of a line lies within another.
+fn is_within(first: i64, last: i64, outer_first: i64, outer_last: i64) -> bool
+    ensures { IsTrue result ↔ ((outer_first ≤ℤ first) × (last ≤ℤ outer_last)) }
+{
+    outer_first <= first && last <= outer_last
+}
 
 /// Whether no side of the first box lies outside the second.
 fn is_box_within(inner: &GridBox, outer: &GridBox) -> bool
     ensures within { IsTrue result ↔ IsWithin inner.now outer.now }
     ensures kept { IsBox inner.now }
 {
-    outer.west() <= inner.west()
-        && inner.east() <= outer.east()
-        && outer.south() <= inner.south()
-        && inner.north() <= outer.north()
+    let across = is_within(inner.west(), inner.east(), outer.west(), outer.east());
+    let up = is_within(inner.south(), inner.north(), outer.south(), outer.north());
+    across && up
+}
+
+/// Whether a box has no point, which is true of none.
+fn has_no_point(only: &GridBox) -> bool
+    ensures never { result ≡ false }
+    ensures kept { IsBox only.now }
+{
+    only.east() < only.west()
 }
 
 /// Whether all points of a set are in another.
@@ -23,7 +38,7 @@ pub fn is_place_within(inner: &Option<GridBox>, outer: &Option<GridBox>) -> bool
 {
     match (inner, outer) {
         (None, _) => true,
-        (Some(_), None) => false,
+        (Some(inner), None) => has_no_point(inner),
         (Some(inner), Some(outer)) => is_box_within(inner, outer),
     }
 }
@@ -64,19 +79,33 @@ pub fn join_places(a: &Option<GridBox>, b: &Option<GridBox>) -> Option<GridBox>
     }
 }
 
+/// The box between four sides; none where they aren't in order.
+fn box_between(west: i64, south: i64, east: i64, north: i64) -> Option<GridBox>
+    requires west_in { IsLongitude west }
+    requires south_in { IsLatitude south }
+    requires east_in { IsLongitude east }
+    requires north_in { IsLatitude north }
+    ensures { (box : Rectangle) → box ≡ record { west = west; south = south; east = east; north = north } → result ≡ (if has_points box then Some box else None) }
+{
+    if east < west {
+        return None;
+    }
+    if north < south {
+        return None;
+    }
+    Some(GridBox::new(west, south, east, north))
+}
+
 /// The points that both boxes have.
 fn meet_boxes(a: &GridBox, b: &GridBox) -> Option<GridBox>
     ensures { result ≡ (if has_points (box_meet a.now b.now) then Some (box_meet a.now b.now) else None) }
 {
-    let west = a.west().max(b.west());
-    let south = a.south().max(b.south());
-    let east = a.east().min(b.east());
-    let north = a.north().min(b.north());
-    if west <= east && south <= north {
-        Some(GridBox::new(west, south, east, north))
-    } else {
-        None
-    }
+    box_between(
+        a.west().max(b.west()),
+        a.south().max(b.south()),
+        a.east().min(b.east()),
+        a.north().min(b.north()),
+    )
 }
 
 /// The points that both sets have.

@@ -1,5 +1,5 @@
 -- Sets of grid points: joins and meets, and that a set is known by its points.
-use Rattle.std.proofs.Common.{rules, ◌≡◌, ◌↔◌, refl, ap, arith, Bool, true, false, cond, ◌&&◌, ℤ, ◌≤ℤ◌, int_le, IsTrue, Option, Some, None}
+use Rattle.std.proofs.Common.{rules, ◌≡◌, ◌↔◌, refl, sym, subst, ap, arith, ◌<ℤ◌, Bool, true, false, cond, ◌&&◌, ℤ, ◌≤ℤ◌, int_le, IsTrue, Option, Some, None}
 use Rattle.std.specs.Int.{int_min, int_max}
 use Rattle.std.proofs.lemmas.Int.{ints, clamps}
 use Rattle.sc_geom.specs.declared.point.Pt.{Pt}
@@ -136,16 +136,59 @@ meet_place None b ok ok' = tt
 meet_place (Some a) None ok ok' = tt
 meet_place (Some a) (Some b) ok ok' = place_cut a b ok ok' (has_points (box_meet a b)) refl
 
+sides : (w s e n w' s' e' n' : ℤ) → w ≡ w' → s ≡ s' → e ≡ e' → n ≡ n' →
+    (let r : Rectangle = record { west = w; south = s; east = e; north = n } in let r' : Rectangle = record { west = w'; south = s'; east = e'; north = n' } in r ≡ r')
+sides w s e n w' s' e' n' west south east north = rw (west, south, east, north) refl
+
+pub same_sides : (a b : Rectangle) → a.west ≡ b.west → a.south ≡ b.south → a.east ≡ b.east → a.north ≡ b.north → a ≡ b
+same_sides a b west south east north = sides a.west a.south a.east a.north b.west b.south b.east b.north west south east north
+
 same_box : (a b : Rectangle) → IsWithin a b → IsWithin b a → a ≡ b
 same_box a b h k =
-    let west : a.west ≡ b.west = omega (arith, ints, h.west, k.west) in
-    let east : a.east ≡ b.east = omega (arith, ints, h.east, k.east) in
-    let south : a.south ≡ b.south = omega (arith, ints, h.south, k.south) in
-    let north : a.north ≡ b.north = omega (arith, ints, h.north, k.north) in
-    cc
+    same_sides a b (omega (arith, ints, h.west, k.west)) (omega (arith, ints, h.south, k.south)) (omega (arith, ints, h.east, k.east)) (omega (arith, ints, h.north, k.north))
 
 pub same_place : (a b : Option Rectangle) → IsPlace a → IsPlace b → ArePointsOf a b → ArePointsOf b a → a ≡ b
 same_place None None ok ok' in_a in_b = refl
 same_place None (Some b) ok ok' in_a in_b = absurd (no_points b ok' in_b)
 same_place (Some a) None ok ok' in_a in_b = absurd (no_points a ok in_a)
 same_place (Some a) (Some b) ok ok' in_a in_b = ap Some (same_box a b (points_within a b ok in_a) (points_within b a ok' in_b))
+
+-- the box between sides, where they are in order
+le_untested : (a b : ℤ) → b <ℤ a → int_le a b ≡ false
+le_untested a b lt = search rules
+
+le_tested : (a b : ℤ) → a ≤ℤ b → int_le a b ≡ true
+le_tested a b le = search rules
+
+pub no_box_across : (box : Rectangle) → box.east <ℤ box.west → None ≡ cond (has_points box) (Some box) None
+no_box_across box lt = rw (le_untested box.west box.east lt) refl
+
+pub no_box_up : (box : Rectangle) → box.west ≤ℤ box.east → box.north <ℤ box.south → None ≡ cond (has_points box) (Some box) None
+no_box_up box le lt = rw (le_tested box.west box.east le, le_untested box.south box.north lt) refl
+
+pub some_box : (box : Rectangle) → box.west ≤ℤ box.east → box.south ≤ℤ box.north → Some box ≡ cond (has_points box) (Some box) None
+some_box box le le' = rw (le_tested box.west box.east le, le_tested box.south box.north le') refl
+
+-- what lies within a box, as a test
+pub all_points : (inner outer : Option Rectangle) (a b : Rectangle) (t : Bool) → inner ≡ Some a → outer ≡ Some b → IsBox a → IsTrue t ↔ IsWithin a b → IsTrue t ↔ ArePointsOf inner outer
+all_points inner outer a b t is is' ok test =
+    let P : Option Rectangle → Option Rectangle → Type 0 = λ i o. IsTrue t ↔ ArePointsOf i o in
+    let here : P (Some a) (Some b) = (λ yes. within_points a b (test.0 yes), λ all. test.1 (points_within a b ok all)) in
+    subst (λ i. P i outer) (sym is) (subst (P (Some a)) (sym is') here)
+
+pub not_all_points : (inner outer : Option Rectangle) (a : Rectangle) → inner ≡ Some a → outer ≡ None → IsBox a → ArePointsOf inner outer → ⊥
+not_all_points inner outer a is is' ok all =
+    let P : Option Rectangle → Option Rectangle → Type 0 = λ i o. ArePointsOf i o in
+    no_points a ok (subst (P (Some a)) is' (subst (λ i. P i outer) is all))
+
+pub sides_within : (a b : Rectangle) (across up : Bool) (w e w' e' s n s' n' : ℤ) → IsTrue across ↔ ((w' ≤ℤ w) × (e ≤ℤ e')) → IsTrue up ↔ ((s' ≤ℤ s) × (n ≤ℤ n')) → IsTrue across →
+    w ≡ a.west → e ≡ a.east → w' ≡ b.west → e' ≡ b.east → s ≡ a.south → n ≡ a.north → s' ≡ b.south → n' ≡ b.north → IsTrue up ↔ IsWithin a b
+sides_within a b across up w e w' e' s n s' n' test test' holds aw ae bw be as' an bs bn =
+    (λ yes'.
+    let x = test.0 holds in
+    let y = test'.0 yes' in
+    record { west = rw (← aw, ← bw) x.0; east = rw (← ae, ← be) x.1; south = rw (← as', ← bs) y.0; north = rw (← an, ← bn) y.1 },
+    λ h. test'.1 (rw (bs, as') h.south, rw (an, bn) h.north))
+
+pub never : (t : Bool) → t ≡ false → IsTrue t → ⊥
+never t never_is holds = cc

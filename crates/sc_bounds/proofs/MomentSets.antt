@@ -67,8 +67,11 @@ meet_ordered None b = tt
 meet_ordered (Some a) None = tt
 meet_ordered (Some a) (Some b) = ordered_cut (int_max a.0 b.0) (int_min a.1 b.1) (int_le (int_max a.0 b.0) (int_min a.1 b.1)) refl
 
+pairs : (a b d e : ℤ) → a ≡ d → b ≡ e → (let p : ℤ × ℤ = (a, b) in let q : ℤ × ℤ = (d, e) in p ≡ q)
+pairs a b d e first last = rw (first, last) refl
+
 same_pair : (a b : ℤ × ℤ) → a.0 ≡ b.0 → a.1 ≡ b.1 → a ≡ b
-same_pair a b e f = cc
+same_pair a b first last = pairs a.0 a.1 b.0 b.1 first last
 
 pub same_moments : (a b : Option (ℤ × ℤ)) → AreMoments a → AreMoments b → AreMomentsOf a b → AreMomentsOf b a → a ≡ b
 same_moments None None ok ok' in_a in_b = refl
