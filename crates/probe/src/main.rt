@@ -4,6 +4,7 @@
 //! line of answer. A kind that isn't known, and an input that isn't of its kind's outer shape, answers `skip`.
 #![tactic(auto)]
 
+mod cuts;
 mod geometries;
 mod json;
 mod numbers;
@@ -16,6 +17,7 @@ use std::io::BufRead;
 /// The answer to an input of a kind; none where it has none.
 fn answer(alloc: Global, kind: &[u8], input: &[u8]) -> Result<Option<String>, AllocError> {
     match kind {
+        b"cut-key" => cuts::cut_key(alloc, input),
         b"dec" => Ok(Some(numbers::dec(alloc, input)?)),
         b"dec-order" => numbers::dec_order(alloc, input),
         b"json" => Ok(Some(json::json(alloc, input)?)),
@@ -24,6 +26,7 @@ fn answer(alloc: Global, kind: &[u8], input: &[u8]) -> Result<Option<String>, Al
         b"range" => Ok(Some(times::range(alloc, input)?)),
         b"geojson" => Ok(Some(geometries::geojson(alloc, input)?)),
         b"bbox" => geometries::bbox(alloc, input),
+        b"span" => cuts::span(alloc, input),
         _ => Ok(None),
     }
 }

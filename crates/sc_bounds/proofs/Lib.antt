@@ -1,0 +1,3 @@
+pub mod MomentSets
+pub mod PointSets
+pub mod Extents

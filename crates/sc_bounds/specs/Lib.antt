@@ -1,0 +1,4 @@
+pub mod Moments
+pub mod Places
+pub mod Extent
+pub mod Sets
