@@ -35,4 +35,4 @@ pub digit_stands : (s : Digits) (d shifted : ℕ) → d ≢ 0 → d < 10 → shi
 digit_stands s d shifted some digit is small =
     let e : s.m * 10 ^ (s.zeros + 1) ≡ s.m * 10 ^ s.zeros * 10 = rw (pow-add 10 s.zeros 1) (sym (mul_assoc s.m (10 ^ s.zeros) 10)) in
     let few : s.m * 10 ^ (s.zeros + 1) + d < 10 ^ 34 = omega (arith, e, is, small, digit) in
-    rw (ne_eqb d 0 some) (record { m_is = ap (λ (x : ℕ). x + d) is; zeros_is = refl; few = few })
+    rw (ne_eqb d 0 some) (record { m_is = ap (λ (x : ℕ). x + d) is; zeros_is = refl; few = few; trimmed = λ h. absurd (omega (arith, e, is, digit, h)) })

@@ -1,14 +1,15 @@
 -- What the reader keeps of a number, and what it stands for.
-use Rattle.std.specs.Prelude.{◌≡◌, ℕ, ◌<◌, ◌≤◌, ◌^◌, Option, Some, None, min}
+use Rattle.std.specs.Prelude.{◌≡◌, ℕ, ◌<◌, ◌≤◌, ◌^◌, ◌%◌, Option, Some, None, min}
 use Rattle.sc_decimal.specs.declared.scan.Front.{Front}
 use Rattle.sc_decimal.specs.declared.reading.Scan.{Scan}
 use Rattle.sc_decimal.specs.Digits.{Digits, Seen}
 
--- the digits as they are, while they are below 10 ^ 34
+-- the digits as they are, while they are below 10 ^ 34; they don't end in a zero
 pub record StandsFor (front : Front) (digits : Digits) : Type 0 where
   pub m_is : front.m ≡ digits.m
   pub zeros_is : front.zeros ≡ digits.zeros
   pub few : digits.m < 10 ^ 34
+  pub trimmed : front.m % 10 ≡ 0 → front.m ≡ 0
 
 abbrev pub Stands : Option Front → Digits → Type 0
 Stands None digits = 10 ^ 34 ≤ digits.m

@@ -31,12 +31,16 @@ number_of text = option_map_or normal (seen_of text) (record { neg = false; m = 
 unfoldable pub is_wide : List ℕ → Bool
 is_wide text = option_map_or (λ s. not (is_narrow (normal s))) (seen_of text) false
 
+-- what is answered of a number in its normal form
+abbrev pub AnswersNumber : Number → Result Number NumFault → Type 0
+AnswersNumber n (Ok d) = (d ≡ n) × (is_narrow n ≡ true)
+AnswersNumber n (Err NumberTooWide) = is_narrow n ≡ false
+AnswersNumber n (Err NotANumber) = ⊥
+
 -- what reading answers by what was seen
 abbrev pub AnswersSeen : Option Seen → Result Number NumFault → Type 0
 AnswersSeen None r = r ≡ Err NotANumber
-AnswersSeen (Some s) (Ok d) = (d ≡ normal s) × (is_narrow (normal s) ≡ true)
-AnswersSeen (Some s) (Err NumberTooWide) = is_narrow (normal s) ≡ false
-AnswersSeen (Some s) (Err NotANumber) = ⊥
+AnswersSeen (Some s) r = AnswersNumber (normal s) r
 
 -- what reading answers
 abbrev pub Answers : List ℕ → Result Number NumFault → Type 0

@@ -1,8 +1,8 @@
-ghost use Rattle.std.specs.Prelude.{ℕ, ◌≡◌, ◌<◌, ◌≤◌, ◌+◌, ◌^◌, IfSome, Some};
+ghost use Rattle.std.specs.Prelude.{ℕ, ◌≡◌, ◌≢◌, ◌<◌, ◌≤◌, ◌+◌, ◌%◌, ◌^◌, IfSome, Some};
 ghost use Rattle.sc_decimal.specs.Digits.{Seen, in_form, is_digit, whole_of, fraction_of, power_of, seen_in};
 ghost use Rattle.sc_decimal.specs.Stands.{Keeps, KeepsNext};
 ghost use Rattle.sc_decimal.specs.Digits.{ended_in, seen_of};
-ghost use Rattle.sc_decimal.specs.Value.{AnswersSeen, exponent_of};
+ghost use Rattle.sc_decimal.specs.Value.{AnswersNumber, AnswersSeen, exponent_of};
 
 use crate::form::Form;
 use crate::number::{Dec, NumFault};
@@ -163,10 +163,25 @@ fn exponent(below: bool, power: u128, zeros: u64, places: u64) -> i128
     power as i128 + zeros as i128 - places as i128
 }
 
+/// The number of digits that don't end in a zero, where its exponent is in range.
+pub(crate) fn with_exponent(neg: bool, m: u128, e: i128) -> Result<Dec, NumFault>
+    requires digits { m < 10 ^ 34 }
+    requires trimmed { m % 10 ≢ 0 }
+    ensures { AnswersNumber (record { neg = neg; m = m; e = e }) result }
+{
+    if e < -6000 {
+        return Err(NumFault::NumberTooWide);
+    }
+    if 6000 < e {
+        return Err(NumFault::NumberTooWide);
+    }
+    Ok(Dec::new(neg, m, e as i32))
+}
+
 /// The number of a whole scan.
 fn value(scan: Scan) -> Result<Dec, NumFault>
     requires places { scan.places < 2 ^ 64 }
-    requires front { IfSome scan.front (λ f. (f.m < 10 ^ 34) × (f.zeros < 2 ^ 64)) }
+    requires front { IfSome scan.front (λ f. (f.m < 10 ^ 34) × (f.zeros < 2 ^ 64) × (f.m % 10 ≡ 0 → f.m ≡ 0)) }
     requires power { scan.power ≤ 2 ^ 80 }
     ensures { (seen : Seen) (n : ℕ) → Keeps scan seen n → n < 2 ^ 64 → AnswersSeen (Some seen) result }
 {
@@ -177,18 +192,12 @@ fn value(scan: Scan) -> Result<Dec, NumFault>
         return Ok(Dec::new(false, 0, 0));
     }
     let e = exponent(scan.below, scan.power, zeros, scan.places);
-    if e < -6000 {
-        return Err(NumFault::NumberTooWide);
-    }
-    if 6000 < e {
-        return Err(NumFault::NumberTooWide);
-    }
-    Ok(Dec::new(scan.neg, m, e as i32))
+    with_exponent(scan.neg, m, e)
 }
 
 fn finish(scan: Scan) -> Result<Dec, NumFault>
     requires places { scan.places < 2 ^ 64 }
-    requires front { IfSome scan.front (λ f. (f.m < 10 ^ 34) × (f.zeros < 2 ^ 64)) }
+    requires front { IfSome scan.front (λ f. (f.m < 10 ^ 34) × (f.zeros < 2 ^ 64) × (f.m % 10 ≡ 0 → f.m ≡ 0)) }
     requires power { scan.power ≤ 2 ^ 80 }
     ensures { (seen : Seen) (n : ℕ) → Keeps scan seen n → n < 2 ^ 64 → AnswersSeen (ended_in scan.form seen) result }
 {

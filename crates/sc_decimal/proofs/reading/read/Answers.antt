@@ -14,7 +14,7 @@ loop-at-init c = (
   record {
     form_is = refl;
     neg_is = refl;
-    front = record { m_is = refl; zeros_is = refl; few = omega arith };
+    front = record { m_is = refl; zeros_is = refl; few = omega arith; trimmed = λ h. refl };
     places_is = refl;
     below_is = refl;
     power = refl;

@@ -1,0 +1,48 @@
+//! What holds of the definitions that the contracts cite. The functions do nothing: each states
+//! a fact for the proofs of other crates.
+ghost use Rattle.std.specs.Prelude.{◌≡◌, ◌++◌, ℕ, ℤ, Bool, true, not, List, Option};
+ghost use Rattle.std.specs.declared.cmp.Ordering.TheVariants.{Equal};
+ghost use Rattle.sc_decimal.specs.Number.{Number, IsDec, dec_cmp, order_of};
+ghost use Rattle.sc_decimal.specs.Grid.{IsOnGrid};
+ghost use Rattle.sc_decimal.specs.Numeral.{Sign, Mantissa, Exponent, IsNumeral};
+ghost use Rattle.sc_decimal.specs.Literal.{literal_of};
+ghost use Rattle.sc_decimal.specs.Value.{is_number, number_of, is_narrow, is_wide};
+
+/// A number has one place on the grid, or none.
+pub fn one_on_grid()
+    ensures { (n : Number) (a b : Option ℤ) → IsOnGrid n a → IsOnGrid n b → a ≡ b }
+{}
+
+/// The order of two numbers is that of the whole numbers that both become when they are
+/// multiplied by ten to minus the lesser exponent.
+pub fn one_order()
+    ensures { (a b : Number) → IsDec a → IsDec b → dec_cmp a b ≡ order_of a b }
+{}
+
+/// Numbers that are equal are the same in sign, digits and exponent.
+pub fn equal_same()
+    ensures { (a b : Number) → IsDec a → IsDec b → dec_cmp a b ≡ Equal → a ≡ b }
+{}
+
+/// A text is of one number at most.
+pub fn one_numeral()
+    ensures { (text : List ℕ) (a b : Number) → IsNumeral text a → IsNumeral text b → a ≡ b }
+{}
+
+/// The tests that compute agree with the grammar.
+pub fn numeral_tests()
+    ensures number { (text : List ℕ) (n : Number) → IsNumeral text n → (is_number text ≡ true) × (number_of text ≡ n) × (is_wide text ≡ not (is_narrow n)) }
+    ensures numeral { (text : List ℕ) → is_number text ≡ true → IsNumeral text (number_of text) }
+{}
+
+/// A sign, a mantissa and an exponent make a number; each of the three but the mantissa may be
+/// empty. The numbers of RFC 8259, section 6, are of this form.
+pub fn parts_number()
+    ensures { (s m ds x : List ℕ) (neg : Bool) (p : ℕ) (e : ℤ) → Sign s neg → Mantissa m ds p → Exponent x e → is_number (s ++ (m ++ x)) ≡ true }
+{}
+
+/// A number's literal is its text, and two numbers with one literal are the same.
+pub fn one_literal()
+    ensures reads { (n : Number) → IsDec n → IsNumeral (literal_of n) n }
+    ensures same { (a b : Number) → IsDec a → IsDec b → literal_of a ≡ literal_of b → a ≡ b }
+{}
