@@ -1,5 +1,6 @@
 -- What the grammar has, the machine takes.
 use Rattle.std.proofs.Common.{◌≡◌, ◌≢◌, ℕ, ◌+◌, List, [], ◌∷◌, ◌++◌, length, true, false, Some, refl, sym, ap, subst, ◌∙◌, arith}
+use Rattle.sc_decimal.specs.Value.{number_of}
 use Rattle.sc_json.specs.declared.tree.Json.{Json}
 use Rattle.sc_json.specs.declared.tree.Json.TheVariants as trees
 use Rattle.sc_json.specs.declared.tree.Member.{Member}
@@ -7,7 +8,7 @@ use Rattle.sc_json.specs.declared.state.State.{State}
 use Rattle.sc_json.specs.declared.state.Frame.{Frame}
 use Rattle.sc_json.specs.declared.state.Frame.TheVariants as frames
 use Rattle.sc_json.specs.declared.state.Mode.TheVariants.{Value, First, FirstName, Name, Colon, After}
-use Rattle.sc_json.specs.Machine.{at, is_blank_byte, step_of, number_json}
+use Rattle.sc_json.specs.Machine.{at, is_blank_byte, step_of}
 use Rattle.sc_json.specs.Grammar as grammar
 use Rattle.sc_json.specs.Grammar.{AreBlanks, Literal, Quoted, Padded, pad, Begun, Field, field, Named}
 use Rattle.sc_json.proofs.Steps.{Leads, stays, steps, leads_on}
@@ -37,10 +38,10 @@ first_name_same : (k : List Frame) (ms : List Member) (n : ℕ) → (step_of (at
 unfolding step_of
 first_name_same k ms n = refl
 
-name_from : (s : State) (k : List Frame) (ms : List Member) → BeginsName s k ms → (bs : List ℕ) (n : ℕ) (t : State) → Leads (34 ∷ bs) n (at (frames.Object ms ∷ k) Name) t → Leads (34 ∷ bs) n s t
+pub name_from : (s : State) (k : List Frame) (ms : List Member) → BeginsName s k ms → (bs : List ℕ) (n : ℕ) (t : State) → Leads (34 ∷ bs) n (at (frames.Object ms ∷ k) Name) t → Leads (34 ∷ bs) n s t
 name_from s k ms h bs n t (steps _ _ _ _ t' _ e l) = steps 34 bs n s t' t (h.same n ∙ e) l
 
-quoted_from : (s : State) (k : List Frame) (ms : List Member) → BeginsName s k ms → (m bytes : List ℕ) → Quoted m bytes → (n : ℕ) → Leads m n s (at (frames.Member ms bytes ∷ k) Colon)
+pub quoted_from : (s : State) (k : List Frame) (ms : List Member) → BeginsName s k ms → (m bytes : List ℕ) → Quoted m bytes → (n : ℕ) → Leads m n s (at (frames.Member ms bytes ∷ k) Colon)
 quoted_from s k ms h m bytes q n =
     let t : State = at (frames.Member ms bytes ∷ k) Colon in
     subst (λ (x : List ℕ). Leads x n s t) (sym q.is)
@@ -72,16 +73,20 @@ pub record ReachesMember (c : List ℕ) (n : ℕ) (s : State) (k : List Frame) (
   pub leads : Leads c n s state
   pub settles : Settles state (frames.Member ms name ∷ k) value
 
+-- the tree of a number
+abbrev pub number_tree : List ℕ → Json
+number_tree ds = trees.Number (record { literal = ds; dec = number_of ds })
+
 -- a whole number, told below
 pub record ReadsNumbers : Type 0 where
-  pub reads : (ds : List ℕ) (v : Json) → Literal ds → number_json ds ≡ Some v → (k : List Frame) (s : State) → Begins s k → (n : ℕ) → Reaches ds n s k v
+  pub reads : (ds : List ℕ) → Literal ds → (k : List Frame) (s : State) → Begins s k → (n : ℕ) → Reaches ds n s k (number_tree ds)
 
 mutual
   pub value_reaches : {m : List ℕ} {v : Json} → ReadsNumbers → grammar.Value m v → (k : List Frame) (s : State) → Begins s k → (n : ℕ) → Reaches m n s k v
   value_reaches z grammar.null k s h n = record { state = at k (After trees.Null); leads = from_begins s k h 110 _ n _ refl (λ e. absurd (omega (arith, e))) (null_goes k n); settles = settles_after k trees.Null }
   value_reaches z grammar.yes k s h n = record { state = at k (After (trees.Truth true)); leads = from_begins s k h 116 _ n _ refl (λ e. absurd (omega (arith, e))) (true_goes k n); settles = settles_after k (trees.Truth true) }
   value_reaches z grammar.no k s h n = record { state = at k (After (trees.Truth false)); leads = from_begins s k h 102 _ n _ refl (λ e. absurd (omega (arith, e))) (false_goes k n); settles = settles_after k (trees.Truth false) }
-  value_reaches z (grammar.number ds v l e) k s h n = z.reads ds v l e k s h n
+  value_reaches z (grammar.number ds l) k s h n = z.reads ds l k s h n
   value_reaches z (grammar.text m bytes q) k s h n = record { state = at k (After (trees.Text bytes)); leads = text_from s k h m bytes q n; settles = settles_after k (trees.Text bytes) }
   value_reaches z (grammar.empty_list w blank) k s h n =
       let t : State = at k (After (trees.List [])) in

@@ -16,7 +16,8 @@ use Rattle.sc_json.specs.Grammar.{AreDigits, Literal}
 use Rattle.sc_json.proofs.Steps.{Leads, stays, steps, leads_on}
 use Rattle.sc_json.proofs.Words.{number_goes, digits_go, whole_on, power_on, fraction_goes}
 use Rattle.sc_json.proofs.Values.{Begins, Settles}
-use Rattle.sc_json.proofs.Complete.{Reaches, from_begins, ReadsNumbers}
+use Rattle.sc_json.proofs.Complete.{Reaches, from_begins, ReadsNumbers, number_tree}
+use Rattle.sc_json.proofs.Numerals.{literal_json}
 
 -- ---- where a number ends
 
@@ -179,17 +180,28 @@ starts st k h grammar.positive (grammar.digits d ds lo hi all) f p n t l = from_
 starts st k h grammar.negative grammar.zero_digit f p n t l = from_begins st k h 45 _ n t refl (λ e. absurd (omega (arith, e))) l
 starts st k h grammar.negative (grammar.digits d ds lo hi all) f p n t l = from_begins st k h 45 _ n t refl (λ e. absurd (omega (arith, e))) l
 
-literal_reaches : (ds : List ℕ) (v : Json) → Literal ds → number_json ds ≡ Some v → (k : List Frame) (s : State) → Begins s k → (n : ℕ) → Reaches ds n s k v
-literal_reaches _ v (grammar.literal s w f p sg wh fr pw) e k st h n =
+-- a whole number, and the state behind it
+pub record LedNumber (ds : List ℕ) (n : ℕ) (s : State) (k : List Frame) : Type 0 where
+  pub part : Part
+  pub is : is_whole part ≡ true
+  pub leads : Leads ds n s (at k (Number part ds n))
+
+pub literal_led : (ds : List ℕ) → Literal ds → (k : List Frame) (s : State) → Begins s k → (n : ℕ) → LedNumber ds n s k
+literal_led _ (grammar.literal s w f p sg wh fr pw) k st h n =
     let i = integer_leads sg wh k n in
     let a = fraction_leads fr i.part i.is k (s ++ w) n (n + length (s ++ w)) in
     let b = power_leads pw a.part a.is k (s ++ w ++ f) n (n + length (s ++ w ++ f)) in
     let t : State = at k (Number b.part (s ++ w ++ f ++ p) n) in
     record {
-      state = t;
-      settles = number_settles b.part b.is (s ++ w ++ f ++ p) v n k e;
+      part = b.part;
+      is = b.is;
       leads = starts st k h sg wh f p n t (leads_on (leads_on i.leads f (n + length (s ++ w)) (at k (Number a.part (s ++ w ++ f) n)) refl a.leads) p (n + length (s ++ w ++ f)) t refl b.leads);
     }
+
+literal_reaches : (ds : List ℕ) → Literal ds → (k : List Frame) (s : State) → Begins s k → (n : ℕ) → Reaches ds n s k (number_tree ds)
+literal_reaches ds l k s h n =
+    let r = literal_led ds l k s h n in
+    record { state = at k (Number r.part ds n); settles = number_settles r.part r.is ds (number_tree ds) n k (literal_json ds l); leads = r.leads }
 
 pub numbers : ReadsNumbers
 numbers = record { reads = literal_reaches }

@@ -26,7 +26,7 @@ leads_read (steps b bs n s t u h l) v e =
     guarded (step_of s n b).breaks n (option_map_or (read_from bs (n + 1)) (step_of s n b).next (Err (Syntax n))) v
     (subst (λ (o : Option State). IsRead (option_map_or (read_from bs (n + 1)) o (Err (Syntax n))) v) (sym h) (leads_read l v e))
 
-after_ends : (v : Json) → end_value (at [] (After v)) ≡ Some v
+pub after_ends : (v : Json) → end_value (at [] (After v)) ≡ Some v
 unfolding end_value
 after_ends v = refl
 

@@ -1,6 +1,7 @@
 -- What the grammar has of a text, the machine takes.
-use Rattle.std.proofs.Common.{◌≡◌, ◌≢◌, ℕ, ◌+◌, ◌-◌, ◌*◌, ◌<◌, ◌≤◌, List, [], ◌∷◌, ◌++◌, length, Bool, true, false, cond, eqb, ltb, leb, ◌&&◌, Option, Some, None, refl, sym, ap, subst, ◌∙◌, arith, ◌⊎◌, inl, inr}
+use Rattle.std.proofs.Common.{◌≡◌, ℕ, ◌+◌, ◌-◌, ◌*◌, ◌<◌, ◌≤◌, List, [], ◌∷◌, ◌++◌, length, Bool, true, false, cond, eqb, ltb, leb, ◌&&◌, Option, Some, None, refl, sym, ap, subst, ◌∙◌, append_assoc, arith, ◌⊎◌, inl, inr}
 use Rattle.std.proofs.lemmas.Bool.{eqb-true}
+use Rattle.std.proofs.lemmas.List.{append-nil}
 use Rattle.std.specs.Option.{option_map_or}
 use Rattle.std.proofs.lemmas.Bool.Decides.{nat_tests}
 use Rattle.sc_json.specs.declared.state.State.{State}
@@ -14,6 +15,9 @@ use Rattle.sc_json.specs.Pieces.{piece_of, slash_of, unit_of, low_of, digit_in, 
 use Rattle.sc_json.specs.Machine.{at, step_of, with_added}
 use Rattle.sc_json.specs.declared.tree.Json.TheVariants as trees
 use Rattle.sc_base.specs.Text.{text_of}
+use Rattle.std.specs.Char.{encode_utf8}
+use Rattle.sc_json.proofs.Hexadecimal.{hex_is}
+use Rattle.sc_json.proofs.Utf8.{utf8_is, ArePlain, char_plain, text_is, pieces_utf8}
 use Rattle.sc_json.specs.declared.tree.Member.{Member}
 use Rattle.sc_json.specs.declared.state.Frame.TheVariants as frames
 use Rattle.sc_json.specs.declared.state.Mode.TheVariants.{Value, Name, Colon, After}
@@ -34,23 +38,6 @@ letter_adds _ _ grammar.f = refl
 letter_adds _ _ grammar.n = refl
 letter_adds _ _ grammar.r = refl
 letter_adds _ _ grammar.t = refl
-
--- a digit is no quote, and is below 16
-hex_is : (b x : ℕ) → hex_of b ≡ Some x → (b ≢ 34) × (x < 16)
-hex_is b x h = split (leb 48 b && leb b 57) (leb 65 b && leb b 70) (leb 97 b && leb b 102) refl refl refl h
-  where
-    some_is : (y z : ℕ) → Some y ≡ Some z → y ≡ z
-    some_is y z e = cc
-
-    between : (l u : ℕ) → (leb l b && leb b u) ≡ true → (l ≤ b) × (b ≤ u)
-    between l u e = grind (arith, nat_tests)
-
-    split : (p q r : Bool) → (leb 48 b && leb b 57) ≡ p → (leb 65 b && leb b 70) ≡ q → (leb 97 b && leb b 102) ≡ r
-        → cond {A = Option ℕ} p (Some (b - 48)) (cond {A = Option ℕ} q (Some (b - 55)) (cond {A = Option ℕ} r (Some (b - 87)) None)) ≡ Some x → (b ≢ 34) × (x < 16)
-    split true q r f g k e = let y = between 48 57 f in let z : b - 48 ≡ x = some_is (b - 48) x e in (omega (arith, y.0, y.1), omega (arith, y.0, y.1, z))
-    split false true r f g k e = let y = between 65 70 g in let z : b - 55 ≡ x = some_is (b - 55) x e in (omega (arith, y.0, y.1), omega (arith, y.0, y.1, z))
-    split false false true f g k e = let y = between 97 102 k in let z : b - 87 ≡ x = some_is (b - 87) x e in (omega (arith, y.0, y.1), omega (arith, y.0, y.1, z))
-    split false false false f g k e = absurd cc
 
 -- a hexadecimal digit within an escape
 digit_goes : (k : List Frame) (is_name : Bool) (p : pieces.Piece) (bytes : List ℕ) (from n b x : ℕ) (g : Grown) (bs : List ℕ) → hex_of b ≡ Some x → piece_of p b ≡ Some g → with_added bytes g.added ≡ Some bs → (step_of (within k is_name p bytes from) n b).next ≡ Some (within k is_name g.piece bs from)
@@ -146,11 +133,18 @@ as_is m m' stands stands' e f k is_name bytes from n l =
     subst (λ (x : List ℕ). Leads x n (within k is_name Plain bytes from) (within k is_name Plain (bytes ++ stands) from)) (sym e)
     (subst (λ (y : List ℕ). Leads m' n (within k is_name Plain bytes from) (within k is_name Plain (bytes ++ y) from)) (sym f) l)
 
+-- bytes that stand for themselves
+pub plain_go : (p : List ℕ) → ArePlain p → (k : List Frame) (is_name : Bool) (bytes : List ℕ) (from n : ℕ) → Leads p n (within k is_name Plain bytes from) (within k is_name Plain (bytes ++ p) from)
+plain_go [] all k is_name bytes from n = subst (λ (x : List ℕ). Leads [] n (within k is_name Plain bytes from) (within k is_name Plain x from)) (sym (append-nil bytes)) (stays n (within k is_name Plain bytes from))
+plain_go (b ∷ p) all k is_name bytes from n =
+    subst (λ (x : List ℕ). Leads (b ∷ p) n (within k is_name Plain bytes from) (within k is_name Plain x from)) (append_assoc bytes (b ∷ []) p)
+    (steps b p n (within k is_name Plain bytes from) (within k is_name Plain (bytes ++ b ∷ []) from) (within k is_name Plain ((bytes ++ b ∷ []) ++ p) from) (plain_goes k is_name bytes from n b all.0.low all.0.no_quote all.0.no_slash) (plain_go p all.1 k is_name (bytes ++ b ∷ []) from (n + 1)))
+
 pub piece_goes : {m stands : List ℕ} → Piece m stands → (k : List Frame) (is_name : Bool) (bytes : List ℕ) (from n : ℕ) → Leads m n (within k is_name Plain bytes from) (within k is_name Plain (bytes ++ stands) from)
-piece_goes (plain m stands r) k is_name bytes from n = as_is m _ stands _ r.is r.stands_is k is_name bytes from n (steps r.c [] n _ _ _ (plain_goes k is_name bytes from n r.c r.low r.no_quote r.no_slash) (stays (n + 1) _))
+piece_goes (plain m stands r) k is_name bytes from n = as_is m _ stands _ r.is r.stands_is k is_name bytes from n (plain_go (encode_utf8 r.c) (char_plain r.c (record { low = r.low; no_quote = r.no_quote; no_slash = r.no_slash })) k is_name bytes from n)
 piece_goes (letter m stands r) k is_name bytes from n = as_is m _ stands _ r.is r.stands_is k is_name bytes from n (letter_goes r.c r.v r.names k is_name bytes from n)
-piece_goes (unit m stands r) k is_name bytes from n = as_is m _ stands _ r.is r.stands_is k is_name bytes from n (unit_goes r.a r.b r.c r.d r.code r.hex r.single k is_name bytes from n)
-piece_goes (pair m stands r) k is_name bytes from n = as_is m _ stands _ r.is r.stands_is k is_name bytes from n (pair_goes r.a r.b r.c r.d r.e r.f r.g r.h r.high r.low r.first r.from_high r.to_high r.second r.from_low r.to_low k is_name bytes from n)
+piece_goes (unit m stands r) k is_name bytes from n = as_is m _ stands _ r.is (r.stands_is ∙ sym (utf8_is r.code)) k is_name bytes from n (unit_goes r.a r.b r.c r.d r.code r.hex r.single k is_name bytes from n)
+piece_goes (pair m stands r) k is_name bytes from n = as_is m _ stands _ r.is (r.stands_is ∙ sym (utf8_is (halves r.high r.low))) k is_name bytes from n (pair_goes r.a r.b r.c r.d r.e r.f r.g r.h r.high r.low r.first r.from_high r.to_high r.second r.from_low r.to_low k is_name bytes from n)
 
 -- the pieces of a text
 pub pieces_go : {raw bytes : List ℕ} → Pieces raw bytes → (k : List Frame) (is_name : Bool) (from n : ℕ) → Leads raw n (within k is_name Plain [] from) (within k is_name Plain bytes from)
@@ -179,7 +173,7 @@ text_goes m bytes q k n =
     subst (λ (x : List ℕ). Leads x n (at k Value) (at k (After (trees.Text bytes)))) (sym q.is)
     (steps 34 (q.raw ++ 34 ∷ []) n (at k Value) (within k false Plain [] n) (at k (After (trees.Text bytes))) (quote_begins k n)
     (leads_on (pieces_go q.pieces k false n (n + 1)) (34 ∷ []) (n + 1 + length q.raw) (at k (After (trees.Text bytes))) refl
-    (steps 34 [] (n + 1 + length q.raw) (within k false Plain bytes n) (at k (After (trees.Text bytes))) (at k (After (trees.Text bytes))) (quote_ends k bytes n (n + 1 + length q.raw) q.utf8) (stays (n + 1 + length q.raw + 1) (at k (After (trees.Text bytes)))))))
+    (steps 34 [] (n + 1 + length q.raw) (within k false Plain bytes n) (at k (After (trees.Text bytes))) (at k (After (trees.Text bytes))) (quote_ends k bytes n (n + 1 + length q.raw) (text_is bytes (pieces_utf8 q.pieces))) (stays (n + 1 + length q.raw + 1) (at k (After (trees.Text bytes)))))))
 
 -- a text that is a name
 pub name_goes : (m bytes : List ℕ) → Quoted m bytes → (k : List Frame) (ms : List Member) (n : ℕ) → Leads m n (at (frames.Object ms ∷ k) Name) (at (frames.Member ms bytes ∷ k) Colon)
@@ -188,4 +182,4 @@ name_goes m bytes q k ms n =
     subst (λ (x : List ℕ). Leads x n (at (frames.Object ms ∷ k) Name) named) (sym q.is)
     (steps 34 (q.raw ++ 34 ∷ []) n (at (frames.Object ms ∷ k) Name) (within (frames.Object ms ∷ k) true Plain [] n) named (name_begins (frames.Object ms ∷ k) n)
     (leads_on (pieces_go q.pieces (frames.Object ms ∷ k) true n (n + 1)) (34 ∷ []) (n + 1 + length q.raw) named refl
-    (steps 34 [] (n + 1 + length q.raw) (within (frames.Object ms ∷ k) true Plain bytes n) named named (name_ends k ms bytes n (n + 1 + length q.raw) q.utf8) (stays (n + 1 + length q.raw + 1) named))))
+    (steps 34 [] (n + 1 + length q.raw) (within (frames.Object ms ∷ k) true Plain bytes n) named named (name_ends k ms bytes n (n + 1 + length q.raw) (text_is bytes (pieces_utf8 q.pieces))) (stays (n + 1 + length q.raw + 1) named))))

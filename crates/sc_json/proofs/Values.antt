@@ -49,16 +49,21 @@ after_rests k v = record { blank = λ n b h. rw h refl }
 pub record Begins (s : State) (k : List Frame) : Type 0 where
   pub rests : Rests s
   pub same : (n b : ℕ) → is_blank_byte b ≡ false → b ≢ 93 → (step_of s n b).next ≡ (step_of (at k Value) n b).next
+  pub breaks : (n b : ℕ) → is_blank_byte b ≡ false → b ≢ 93 → (step_of s n b).breaks ≡ (step_of (at k Value) n b).breaks
 
 pub begins_value : (k : List Frame) → Begins (at k Value) k
-begins_value k = record { rests = value_rests k; same = λ n b x y. refl }
+begins_value k = record { rests = value_rests k; same = λ n b x y. refl; breaks = λ n b x y. refl }
 
 first_as_value : (k : List Frame) (n b : ℕ) → is_blank_byte b ≡ false → b ≢ 93 → (step_of (at k First) n b).next ≡ (step_of (at k Value) n b).next
 unfolding step_of
 first_as_value k n b x y = rw (x, ne_eqb b 93 y) refl
 
+first_breaks : (k : List Frame) (n b : ℕ) → is_blank_byte b ≡ false → b ≢ 93 → (step_of (at k First) n b).breaks ≡ (step_of (at k Value) n b).breaks
+unfolding step_of
+first_breaks k n b x y = rw (x, ne_eqb b 93 y) refl
+
 pub begins_first : (k : List Frame) → Begins (at k First) k
-begins_first k = record { rests = first_rests k; same = first_as_value k }
+begins_first k = record { rests = first_rests k; same = first_as_value k; breaks = first_breaks k }
 
 -- a state in which a value may be over: a byte that goes on with no number is taken as behind the value
 pub record Settles (s : State) (k : List Frame) (v : Json) : Type 0 where

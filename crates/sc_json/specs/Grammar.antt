@@ -1,20 +1,19 @@
--- The grammar of RFC 8259 over bytes, apart from the reader: what spells a tree, without regard to limits.
-use Rattle.std.specs.Prelude.{◌≡◌, ◌≢◌, ℕ, ◌≤◌, ◌<◌, List, [], ◌∷◌, ◌++◌, true, false, ◌⊎◌, ◌+◌, ◌*◌, Some}
-use Rattle.sc_base.specs.Text.{text_of}
+-- The grammar of RFC 8259 over bytes, and the tree that a text spells. Depth, equal names and the width of numbers don't
+-- count here: a number spells the decimal number of its literal, however long.
+use Rattle.std.specs.Prelude.{◌≡◌, ◌≢◌, ℕ, ◌≤◌, ◌<◌, List, [], ◌∷◌, ◌++◌, true, false, ◌⊎◌, ◌+◌, ◌*◌, Some, encode_utf8}
+use Rattle.std.specs.Char.{IsScalar}
+use Rattle.sc_decimal.specs.Value.{number_of}
 use Rattle.sc_json.specs.declared.tree.Json.{Json}
-use Rattle.sc_json.specs.declared.tree.Json.TheVariants.{Null, Truth, Text, List as Many, Object}
+use Rattle.sc_json.specs.declared.tree.Json.TheVariants.{Null, Truth, Number, Text, List as Many, Object}
 use Rattle.sc_json.specs.declared.tree.Member.{Member, roll-Member}
-use Rattle.sc_json.specs.Machine.{is_blank_byte, number_json}
-use Rattle.sc_json.specs.Numbers.{is_digit_byte}
-use Rattle.sc_json.specs.Hex.{hex_of, utf8_of, halves}
+use Rattle.sc_json.specs.Characters.{is_blank_byte, is_digit_byte}
+use Rattle.sc_json.specs.Hex.{hex_of, halves}
+
+-- ---- white space (section 2)
 
 abbrev pub AreBlanks : List ℕ → Type 0
 AreBlanks [] = Unit {0}
 AreBlanks (b ∷ bs) = (is_blank_byte b ≡ true) × AreBlanks bs
-
-abbrev pub AreDigits : List ℕ → Type 0
-AreDigits [] = Unit {0}
-AreDigits (b ∷ bs) = (is_digit_byte b ≡ true) × AreDigits bs
 
 -- ---- texts in quotes (section 7)
 
@@ -41,15 +40,17 @@ pub record AreHex (a b c d : ℕ) (code : ℕ) : Type 0 where
   pub z_is : hex_of d ≡ Some z
   pub code_is : code ≡ ((w * 16 + x) * 16 + y) * 16 + z
 
--- one byte of a text
+-- a character that stands for itself, in UTF-8: any but the control characters, the quote and the backslash
 pub record IsPlain (m stands : List ℕ) : Type 0 where
   pub c : ℕ
+  pub scalar : IsScalar c
   pub low : 32 ≤ c
   pub no_quote : c ≢ 34
   pub no_slash : c ≢ 92
-  pub is : m ≡ c ∷ []
-  pub stands_is : stands ≡ c ∷ []
+  pub is : m ≡ encode_utf8 c
+  pub stands_is : stands ≡ encode_utf8 c
 
+-- an escape by letter
 pub record IsLetter (m stands : List ℕ) : Type 0 where
   pub c : ℕ
   pub v : ℕ
@@ -57,7 +58,7 @@ pub record IsLetter (m stands : List ℕ) : Type 0 where
   pub is : m ≡ 92 ∷ c ∷ []
   pub stands_is : stands ≡ v ∷ []
 
--- an escape by number, of no half
+-- an escape by number, of no surrogate: `\u` and four digits
 pub record IsUnit (m stands : List ℕ) : Type 0 where
   pub a : ℕ
   pub b : ℕ
@@ -67,9 +68,9 @@ pub record IsUnit (m stands : List ℕ) : Type 0 where
   pub hex : AreHex a b c d code
   pub single : (code < 55296) ⊎ (57344 ≤ code)
   pub is : m ≡ 92 ∷ 117 ∷ a ∷ b ∷ c ∷ d ∷ []
-  pub stands_is : stands ≡ utf8_of code
+  pub stands_is : stands ≡ encode_utf8 code
 
--- the escapes of a high and a low half
+-- a character past four digits, by the escapes of its high and its low surrogate
 pub record IsPair (m stands : List ℕ) : Type 0 where
   pub a : ℕ
   pub b : ℕ
@@ -88,28 +89,33 @@ pub record IsPair (m stands : List ℕ) : Type 0 where
   pub from_low : 56320 ≤ low
   pub to_low : low < 57344
   pub is : m ≡ 92 ∷ 117 ∷ a ∷ b ∷ c ∷ d ∷ 92 ∷ 117 ∷ e ∷ f ∷ g ∷ h ∷ []
-  pub stands_is : stands ≡ utf8_of (halves high low)
+  pub stands_is : stands ≡ encode_utf8 (halves high low)
 
--- one byte or escape of a text, and the bytes that it stands for
+-- one character of a text, as itself or by an escape, and the bytes that it stands for
 pub data Piece : List ℕ → List ℕ → Type 0 where
   plain : (m stands : List ℕ) → IsPlain m stands → Piece m stands
   letter : (m stands : List ℕ) → IsLetter m stands → Piece m stands
   unit : (m stands : List ℕ) → IsUnit m stands → Piece m stands
   pair : (m stands : List ℕ) → IsPair m stands → Piece m stands
 
+-- the characters of a text in turn, and the bytes that they stand for
 pub data Pieces : List ℕ → List ℕ → Type 0 where
   no_piece : Pieces [] []
   one_more : (raw piece bytes stands : List ℕ) → Pieces raw bytes → Piece piece stands → Pieces (raw ++ piece) (bytes ++ stands)
 
--- a text with its quotes; what it stands for is UTF-8
+-- a text with its quotes, and what it stands for
 pub record Quoted (m bytes : List ℕ) : Type 0 where
   pub raw : List ℕ
   pub is : m ≡ 34 ∷ (raw ++ 34 ∷ [])
   pub pieces : Pieces raw bytes
-  pub utf8 : text_of bytes ≡ Some bytes
 
 -- ---- numbers (section 6)
 
+abbrev pub AreDigits : List ℕ → Type 0
+AreDigits [] = Unit {0}
+AreDigits (d ∷ ds) = (is_digit_byte d ≡ true) × AreDigits ds
+
+-- a digit 0, or digits of which the first is none
 pub data Whole : List ℕ → Type 0 where
   zero_digit : Whole (48 ∷ [])
   digits : (d : ℕ) (ds : List ℕ) → 49 ≤ d → d ≤ 57 → AreDigits ds → Whole (d ∷ ds)
@@ -154,14 +160,14 @@ mutual
     null : Value null_text Null
     yes : Value true_text (Truth true)
     no : Value false_text (Truth false)
-    number : (ds : List ℕ) (v : Json) → Literal ds → number_json ds ≡ Some v → Value ds v
+    number : (ds : List ℕ) → Literal ds → Value ds (Number (record { literal = ds; dec = number_of ds }))
     text : (m bytes : List ℕ) → Quoted m bytes → Value m (Text bytes)
     empty_list : (w : List ℕ) → AreBlanks w → Value (91 ∷ w ++ 93 ∷ []) (Many [])
     list : (a c : List ℕ) (ys : List Json) (x : Json) → Begun a ys → Padded c x → Value (91 ∷ (a ++ c ++ 93 ∷ [])) (Many (ys ++ x ∷ []))
     empty_object : (w : List ℕ) → AreBlanks w → Value (123 ∷ w ++ 125 ∷ []) (Object [])
     object : (a c : List ℕ) (ys : List Member) (x : Member) → Named a ys → Field c x → Value (123 ∷ (a ++ c ++ 125 ∷ [])) (Object (ys ++ x ∷ []))
 
-  -- a value between white space
+  -- a value between white space, which is also what a whole JSON text is
   pub data Padded : List ℕ → Json → Type 0 where
     pad : (l m r : List ℕ) (v : Json) → AreBlanks l → Value m v → AreBlanks r → Padded (l ++ m ++ r) v
 

@@ -1,14 +1,12 @@
 -- The reader as a machine, which takes one byte after another. A move says which state comes next, by the grammar
 -- alone, and which limit the byte breaks, if any.
-use Rattle.std.specs.Prelude.{◌≡◌, ℕ, ◌+◌, ◌-◌, List, [], ◌∷◌, ◌++◌, length, take, Bool, true, false, ◌&&◌, ◌||◌, ◌==◌, nat_le, nat_eq, if◌then◌else◌, Option, Some, None, Result, Ok, Err}
+use Rattle.std.specs.Prelude.{◌≡◌, ℕ, ◌+◌, ◌-◌, ◌≤◌, List, [], ◌∷◌, ◌++◌, length, take, drop, Bool, true, false, ◌&&◌, ◌==◌, nat_le, if◌then◌else◌, Option, Some, None, Result, Ok, Err}
 use Rattle.std.specs.Option.{option_map_or}
-use Rattle.std.specs.List.{list_any}
-use Rattle.std.specs.Cmp.Lexicographic.{pointwise}
 use Rattle.sc_base.specs.Text.{text_of}
 use Rattle.sc_decimal.specs.Value.{number_of, is_number, is_wide}
 use Rattle.sc_json.specs.declared.tree.Json.{Json}
 use Rattle.sc_json.specs.declared.tree.Json.TheVariants as trees
-use Rattle.sc_json.specs.declared.tree.Member.{Member, out-Member, roll-Member}
+use Rattle.sc_json.specs.declared.tree.Member.{Member, roll-Member}
 use Rattle.sc_json.specs.declared.state.Mode.{Mode}
 use Rattle.sc_json.specs.declared.state.Mode.TheVariants.{Value, First, FirstName, Name, Colon, Word, Number, Quoted, After}
 use Rattle.sc_json.specs.declared.state.Frame.{Frame}
@@ -26,6 +24,8 @@ use Rattle.sc_json.specs.declared.fault.JsonFault.{JsonFault}
 use Rattle.sc_json.specs.declared.fault.JsonFault.TheVariants as faults
 use Rattle.sc_json.specs.declared.fault.StepFault.{StepFault}
 use Rattle.sc_json.specs.declared.fault.StepFault.TheVariants as steps
+pub use Rattle.sc_json.specs.Characters.{is_blank_byte}
+pub use Rattle.sc_json.specs.Names.{has_name}
 use Rattle.sc_json.specs.Hex.{utf8_of}
 use Rattle.sc_json.specs.Pieces.{piece_of}
 use Rattle.sc_json.specs.Numbers.{next_part, behind_whole, is_whole}
@@ -48,9 +48,6 @@ goes s = record { next = Some s; breaks = None }
 
 abbrev pub refused : Move
 refused = record { next = None; breaks = None }
-
-abbrev pub is_blank_byte : ℕ → Bool
-is_blank_byte b = (b == 32) || (b == 9) || (b == 10) || (b == 13)
 
 -- a list or an object begins at this place
 abbrev pub nested : List Frame → Frame → Mode → ℕ → Move
@@ -176,9 +173,6 @@ abbrev pub number_move : List Frame → Part → List ℕ → ℕ → ℕ → Mo
 number_move k part ds from b = option_map_or (λ p. goes (at k (Number p (ds ++ b ∷ []) from))) (next_part part b) (ended_move k part ds from b)
 
 -- a name is over
-abbrev pub has_name : List Member → List ℕ → Bool
-has_name ms name = list_any (λ m. pointwise nat_eq (out-Member m).name name) ms
-
 abbrev pub named_of : List Frame → List ℕ → ℕ → Move
 named_of (frames.Object ms ∷ k) name from = record { next = Some (at (frames.Member ms name ∷ k) Colon); breaks = if has_name ms name then Some (double from) else None }
 named_of _ name from = refused
@@ -291,11 +285,26 @@ abbrev pub Reads : Result Json JsonFault → Result Json JsonFault → Type 0
 Reads (Err faults.OutOfMemory) read = Unit {0}
 Reads r read = read ≡ r
 
--- a byte that was taken in place, or left alone
-abbrev pub Quick : Result Bool StepFault → State → State → ℕ → Type 0
-Quick (Ok true) old new b = (n : ℕ) → step_of old n b ≡ goes new
-Quick (Ok false) old new b = new ≡ old
-Quick (Err e) old new b = e ≡ steps.Memory
+-- the mode that comes next, with what is open then
+abbrev pub Turns : Result Mode StepFault → List Frame → Move → Type 0
+Turns (Ok mode) k move = (move.next ≡ Some (at k mode)) × (move.breaks ≡ None)
+Turns (Err e) k move = Fails e move.next move.breaks
+
+-- the state that comes next
+abbrev pub Steps : Result (Unit {0}) StepFault → State → Move → Type 0
+Steps (Ok _) new move = (move.next ≡ Some new) × (move.breaks ≡ None)
+Steps (Err e) new move = Fails e move.next move.breaks
+
+-- where white space changes nothing
+abbrev pub rests : Mode → Bool
+rests (Word so_far) = false
+rests (Number part ds from) = false
+rests (Quoted is_name piece bytes from) = false
+rests _ = true
+
+-- bytes that change no more than what was read of a text, a number or white space: reading goes on behind n of them
+abbrev pub RunsOn : List ℕ → ℕ → State → ℕ → State → Type 0
+RunsOn bytes at old n new = (n ≤ length bytes) × (read_from bytes at old ≡ read_from (drop n bytes) (at + n) new)
 
 -- what is read where this tree is spelled: it, unless a limit is broken or memory runs out
 abbrev pub IsRead : Result Json JsonFault → Json → Type 0

@@ -1,10 +1,8 @@
 -- A number, a byte at a time (RFC 8259 §6).
-use Rattle.std.specs.Prelude.{ℕ, Bool, true, false, ◌&&◌, ◌==◌, nat_le, if◌then◌else◌, Option, Some, None}
+use Rattle.std.specs.Prelude.{ℕ, List, [], ◌∷◌, Bool, true, false, ◌==◌, if◌then◌else◌, Option, Some, None, option_and_then}
+pub use Rattle.sc_json.specs.Characters.{is_digit_byte}
 use Rattle.sc_json.specs.declared.state.Part.{Part}
 use Rattle.sc_json.specs.declared.state.Part.TheVariants.{Minus, Zero, Whole, Point, Fraction, Mark, Sign, Power}
-
-abbrev pub is_digit_byte : ℕ → Bool
-is_digit_byte b = nat_le 48 b && nat_le b 57
 
 abbrev pub mark_of : ℕ → Option Part
 mark_of b = if b == 101 then Some Mark else (if b == 69 then Some Mark else None)
@@ -24,6 +22,11 @@ next_part Fraction b = if is_digit_byte b then Some Fraction else mark_of b
 next_part Mark b = if b == 43 then Some Sign else (if b == 45 then Some Sign else power_of b)
 next_part Sign b = power_of b
 next_part Power b = power_of b
+
+-- the part behind more bytes of a number
+abbrev pub parts_on : Part → List ℕ → Option Part
+parts_on part [] = Some part
+parts_on part (b ∷ bs) = option_and_then (λ next. parts_on next bs) (next_part part b)
 
 -- how many bytes stand behind the longest whole number
 abbrev pub behind_whole : Part → Option ℕ

@@ -1,11 +1,15 @@
 -- A text in quotes, a byte at a time (RFC 8259 §7).
-use Rattle.std.specs.Prelude.{ℕ, ◌+◌, ◌-◌, ◌*◌, ◌&&◌, ◌==◌, nat_le, nat_lt, if◌then◌else◌, Option, Some, None}
+use Rattle.std.specs.Prelude.{ℕ, Bool, not, ◌+◌, ◌-◌, ◌*◌, ◌&&◌, ◌==◌, nat_le, nat_lt, if◌then◌else◌, Option, Some, None}
 use Rattle.std.specs.Option.{option_map_or}
 use Rattle.sc_json.specs.Hex.{hex_of}
 use Rattle.sc_json.specs.declared.state.Piece.{Piece}
 use Rattle.sc_json.specs.declared.state.Piece.TheVariants.{Plain, Slash, Unit as Units, Unit1, Unit2, Unit3, Pair, PairSlash, Low, Low1, Low2, Low3}
 use Rattle.sc_json.specs.declared.quoted.Grown.{Grown}
 use Rattle.sc_json.specs.declared.quoted.Added.TheVariants.{Nothing, Byte, Scalar}
+
+-- a byte that stands for itself
+abbrev pub is_plain_byte : ℕ → Bool
+is_plain_byte b = nat_le 32 b && not (b == 34) && not (b == 92)
 
 abbrev pub onward : Piece → Option Grown
 onward p = Some (record { piece = p; added = Nothing })

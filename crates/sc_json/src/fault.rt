@@ -15,7 +15,7 @@ pub enum JsonFault {
 }
 
 /// Why a byte wasn't taken.
-#[derive(Clone, Copy, Debug, PartialEq, Eq)]
+#[derive(Clone, Copy)]
 pub enum StepFault {
     /// No text goes on so.
     Refused,
@@ -41,5 +41,15 @@ impl<T: Drop> From<AllocFailed<T>> for StepFault {
 
     fn from(_e: AllocFailed<T>) -> StepFault {
         StepFault::Memory
+    }
+}
+
+impl From<AllocError> for JsonFault {
+    ghost use Rattle.sc_json.specs.declared.fault.JsonFault.TheVariants.{OutOfMemory};
+
+    ghost from_gives = { λ _ e. e ≡ OutOfMemory };
+
+    fn from(_e: AllocError) -> JsonFault {
+        JsonFault::OutOfMemory
     }
 }

@@ -1,7 +1,7 @@
 ghost use Rattle.std.specs.Prelude.{◌≡◌, ◌<◌, ◌≤◌, ◌++◌, OnOk};
 ghost use Rattle.sc_json.specs.Hex.{hex_of, utf8_of};
 
-use sc_base::Seq;
+use crate::buffer::Buffer;
 use std::alloc::AllocError;
 
 /// The value of a hexadecimal digit.
@@ -22,7 +22,7 @@ pub(crate) fn hex(byte: u8) -> Option<u8>
 
 /// Adds a character's bytes.
 #[tactic(auto, unfolding(crate::specs::Hex::utf8_of))]
-pub(crate) fn push_scalar(bytes: &mut Seq<u8>, c: u32) -> Result<(), AllocError>
+pub(crate) fn push_scalar(bytes: &mut Buffer, c: u32) -> Result<(), AllocError>
     requires { c < 0x110000 }
     ensures { OnOk result (bytes.new ≡ bytes.old ++ utf8_of c) }
 {

@@ -5,7 +5,7 @@ use crate::hex::hex;
 use crate::state::Piece;
 
 /// What a byte adds to a text.
-#[derive(Clone, Copy, Debug, PartialEq, Eq)]
+#[derive(Clone, Copy)]
 pub(crate) enum Added {
     Nothing,
     Byte(u8),
@@ -13,7 +13,7 @@ pub(crate) enum Added {
 }
 
 /// Where in a text a byte leads, and what it adds.
-#[derive(Clone, Copy, Debug)]
+#[derive(Clone, Copy)]
 pub(crate) struct Grown {
     pub piece: Piece,
     pub added: Added,

@@ -1,12 +1,11 @@
-ghost use Rattle.std.specs.Prelude.{◌≡◌, Err, IsUtf8};
-ghost use Rattle.std.specs.Str.Lossy.{utf8_valid_len};
+ghost use Rattle.std.specs.Prelude.{◌≡◌};
 ghost use Rattle.sc_json.specs.Machine as m;
-ghost use Rattle.sc_json.specs.Grammar.{Padded};
-ghost use Rattle.sc_json.specs.declared.tree.Json.{Json};
+ghost use Rattle.sc_json.specs.Faults.{Answers};
 
 use crate::fault::{JsonFault, StepFault};
 use crate::state::{Mode, State};
-use crate::step::{finish, quick, step};
+use crate::runs::run;
+use crate::step::{finish, step};
 use crate::tree::Json;
 use sc_base::Stack;
 use std::alloc::Global;
@@ -31,15 +30,15 @@ fn read_all(alloc: Global, bytes: &[u8]) -> Result<Json, JsonFault>
         stack: Stack::new(alloc),
         mode: Mode::Value,
     };
-    for (at, byte) in bytes.iter().enumerate() {
-        match quick(&mut state, *byte) {
-            Err(_) => return Err(JsonFault::OutOfMemory),
-            Ok(true) => continue,
-            Ok(false) => {}
+    let mut at = 0;
+    'reading: loop {
+        at += run(&mut state, &bytes[at..], at)?;
+        if at == bytes.len() {
+            break 'reading;
         }
-        match step(alloc, state, at as u64, *byte) {
+        match step(alloc, &mut state, at as u64, bytes[at]) {
             Err(fault) => return Err(at_place(fault, at as u64)),
-            Ok(next) => state = next,
+            Ok(()) => at += 1,
         }
     }
     match finish(state) {
@@ -48,27 +47,20 @@ fn read_all(alloc: Global, bytes: &[u8]) -> Result<Json, JsonFault>
     }
 }
 
-/// The same, by the grammar.
-fn read_spelled(alloc: Global, bytes: &[u8]) -> Result<Json, JsonFault>
-    ensures gives { m.Reads result (m.read_of bytes.now) }
-    ensures only { (tree : Json) → Padded bytes.now tree → m.IsRead result tree }
-{
-    read_all(alloc, bytes)
-}
-
-/// The tree that the bytes spell.
+/// Reads a JSON text (RFC 8259). Numbers keep their literals and objects the order of their members.
+///
+/// The answer is the good tree that the bytes spell, where they spell one. Else it is their first fault, with its place:
+/// `Syntax` at the length of the longest prefix that may begin a JSON text, `Duplicate` at the opening quote of a name that
+/// its object has already, `TooDeep` at the bracket or brace that opens level 65, `NumberTooWide` at the first byte of a
+/// number that `Dec` can't hold. Bytes that aren't UTF-8 are `NotUtf8` at the first byte that isn't part of a whole
+/// character, before all others. `OutOfMemory` may stand in the place of any answer.
 pub fn read_json(alloc: Global, bytes: &[u8]) -> Result<Json, JsonFault>
-    // Of UTF-8 the tree, or the first of all faults.
-    ensures text { IsUtf8 bytes.now → m.Reads result (m.read_of bytes.now) }
-    // What is spelled is read, unless a limit is broken or memory runs out.
-    ensures only { (tree : Json) → IsUtf8 bytes.now → Padded bytes.now tree → m.IsRead result tree }
-    // Of other bytes the place up to which they are UTF-8.
-    ensures other { ¬ IsUtf8 bytes.now → result ≡ Err (JsonFault.NotUtf8 (utf8_valid_len bytes.now)) }
+    ensures { Answers bytes.now result }
 {
     match std::str::from_utf8(bytes) {
         Err(error) => Err(JsonFault::NotUtf8 {
             at: error.valid_up_to() as u64,
         }),
-        Ok(_) => read_spelled(alloc, bytes),
+        Ok(_) => read_all(alloc, bytes),
     }
 }

@@ -1,8 +1,10 @@
-use crate::tree::{Json, Member};
+use crate::buffer::Buffer;
+use crate::members::Members;
+use crate::tree::Json;
 use sc_base::{Seq, Stack, Text};
 
 /// How much of `true`, `false` or `null` came.
-#[derive(Clone, Copy, Debug, PartialEq, Eq)]
+#[derive(Clone, Copy)]
 pub enum Letters {
     T,
     Tr,
@@ -17,7 +19,7 @@ pub enum Letters {
 }
 
 /// Which part of a number came last.
-#[derive(Clone, Copy, Debug, PartialEq, Eq)]
+#[derive(Clone, Copy)]
 pub enum Part {
     Minus,
     Zero,
@@ -30,7 +32,7 @@ pub enum Part {
 }
 
 /// Where in a text in quotes: in whole characters, or so far in an escape.
-#[derive(Clone, Copy, Debug, PartialEq, Eq)]
+#[derive(Clone, Copy)]
 pub enum Piece {
     Plain,
     /// A backslash.
@@ -50,18 +52,18 @@ pub enum Piece {
 }
 
 /// What is open round a place.
-#[derive(Debug, Drop)]
+#[derive(Drop)]
 pub enum Frame {
     /// A list, with the elements so far.
     List(Seq<Json>),
     /// An object before a name, with the members so far.
-    Object(Seq<Member>),
+    Object(Members),
     /// An object at the value of a name.
-    Member(Seq<Member>, Text),
+    Member(Members, Text),
 }
 
 /// What may come next.
-#[derive(Debug, Drop)]
+#[derive(Drop)]
 pub enum Mode {
     /// A value.
     Value,
@@ -78,14 +80,14 @@ pub enum Mode {
     /// More of a number, or what follows it.
     Number {
         part: Part,
-        literal: Seq<u8>,
+        literal: Buffer,
         from: u64,
     },
     /// More of a text.
     Quoted {
         is_name: bool,
         piece: Piece,
-        bytes: Seq<u8>,
+        bytes: Buffer,
         from: u64,
     },
     /// What follows a value.
@@ -93,7 +95,7 @@ pub enum Mode {
 }
 
 /// A reader in the midst of a text.
-#[derive(Debug, Drop)]
+#[derive(Drop)]
 pub struct State {
     pub stack: Stack<Frame>,
     pub mode: Mode,

@@ -1,8 +1,11 @@
 ghost use Rattle.std.specs.Prelude.{◌≡◌, [], ◌∷◌, ◌++◌, None, Some, Ok, true, false, OnOk};
 ghost use Rattle.sc_json.specs.Machine as m;
+ghost use Rattle.sc_json.specs.declared.tree.Member.{out-Member};
 
+use crate::buffer::Buffer;
 use crate::fault::StepFault;
 use crate::hex::push_scalar;
+use crate::members::Members;
 use crate::number::{behind_whole, is_whole, part_on};
 use crate::quoted::{Added, Grown, grow};
 use crate::state::{Frame, Letters, Mode, Part, Piece, State};
@@ -10,134 +13,137 @@ use crate::tree::{Json, Member, Num};
 use sc_base::{Seq, Stack, Text};
 use sc_decimal::{Dec, NumFault};
 use std::alloc::Global;
+use std::mem;
 
-fn is_blank(byte: u8) -> bool
+pub(crate) fn is_blank(byte: u8) -> bool
     ensures { result ≡ m.is_blank_byte byte }
 {
     byte == 32 || byte == 9 || byte == 10 || byte == 13
 }
 
-fn at(stack: Stack<Frame>, mode: Mode) -> Result<State, StepFault>
-    ensures { result ≡ Ok (m.at stack mode) }
-{
-    Ok(State { stack, mode })
-}
-
 /// A list or an object begins.
-fn nest(mut stack: Stack<Frame>, frame: Frame, mode: Mode, place: u64) -> Result<State, StepFault>
-    ensures { m.Takes result (m.nested stack frame mode place) }
+fn nest(
+    stack: &mut Stack<Frame>,
+    frame: Frame,
+    mode: Mode,
+    place: u64,
+) -> Result<Mode, StepFault>
+    ensures { m.Turns result stack.new (m.nested stack.old frame mode place) }
 {
     if stack.len() >= 64 {
         return Err(StepFault::TooDeep { at: place });
     }
     stack.push(frame)?;
-    Ok(State { stack, mode })
+    Ok(mode)
 }
 
-fn quote(alloc: Global, stack: Stack<Frame>, is_name: bool, place: u64) -> Result<State, StepFault>
-    ensures { result ≡ Ok (m.at stack (Mode.Quoted is_name Piece.Plain [] place)) }
+fn quote(alloc: Global, is_name: bool, place: u64) -> Mode
+    ensures { result ≡ Mode.Quoted is_name Piece.Plain [] place }
 {
-    let mode = Mode::Quoted {
+    Mode::Quoted {
         is_name,
         piece: Piece::Plain,
-        bytes: Seq::new(alloc),
+        bytes: Buffer::new(alloc),
         from: place,
-    };
-    Ok(State { stack, mode })
+    }
 }
 
-fn number(
-    alloc: Global,
-    stack: Stack<Frame>,
-    part: Part,
-    byte: u8,
-    place: u64,
-) -> Result<State, StepFault>
-    ensures { m.Gives result (Some (m.at stack (Mode.Number part (byte ∷ []) place))) None }
+fn number(alloc: Global, part: Part, byte: u8, place: u64) -> Result<Mode, StepFault>
+    ensures { m.Gives result (Some (Mode.Number part (byte ∷ []) place)) None }
 {
-    let mut literal = Seq::new(alloc);
+    let mut literal = Buffer::for_number(alloc)?;
     literal.push(byte)?;
-    let mode = Mode::Number {
+    Ok(Mode::Number {
         part,
         literal,
         from: place,
-    };
-    Ok(State { stack, mode })
+    })
 }
 
 /// The first byte of a number or a word.
-fn scalar(alloc: Global, stack: Stack<Frame>, place: u64, byte: u8) -> Result<State, StepFault>
-    ensures { m.Gives result (m.scalar_of stack place byte) None }
+fn scalar(
+    alloc: Global,
+    stack: &mut Stack<Frame>,
+    place: u64,
+    byte: u8,
+) -> Result<Mode, StepFault>
+    ensures { m.Turns result stack.new (m.plain (m.scalar_of stack.old place byte)) }
 {
     if byte == b'-' {
-        return number(alloc, stack, Part::Minus, byte, place);
+        return number(alloc, Part::Minus, byte, place);
     }
     if byte == b'0' {
-        return number(alloc, stack, Part::Zero, byte, place);
+        return number(alloc, Part::Zero, byte, place);
     }
     if 49 <= byte && byte <= 57 {
-        return number(alloc, stack, Part::Whole, byte, place);
+        return number(alloc, Part::Whole, byte, place);
     }
     if byte == b't' {
-        return at(stack, Mode::Word(Letters::T));
+        return Ok(Mode::Word(Letters::T));
     }
     if byte == b'f' {
-        return at(stack, Mode::Word(Letters::F));
+        return Ok(Mode::Word(Letters::F));
     }
     if byte == b'n' {
-        return at(stack, Mode::Word(Letters::N));
+        return Ok(Mode::Word(Letters::N));
     }
     Err(StepFault::Refused)
 }
 
 /// White space, or the first byte of a value.
-fn begin(alloc: Global, stack: Stack<Frame>, place: u64, byte: u8) -> Result<State, StepFault>
-    ensures { m.Takes result (m.begin_of stack place byte) }
+fn begin(
+    alloc: Global,
+    stack: &mut Stack<Frame>,
+    place: u64,
+    byte: u8,
+) -> Result<Mode, StepFault>
+    ensures { m.Turns result stack.new (m.begin_of stack.old place byte) }
 {
     if is_blank(byte) {
-        return at(stack, Mode::Value);
+        return Ok(Mode::Value);
     }
     if byte == b'"' {
-        return quote(alloc, stack, false, place);
+        return Ok(quote(alloc, false, place));
     }
     if byte == b'[' {
         return nest(stack, Frame::List(Seq::new(alloc)), Mode::First, place);
     }
     if byte == b'{' {
-        return nest(
-            stack,
-            Frame::Object(Seq::new(alloc)),
-            Mode::FirstName,
-            place,
-        );
+        let frame = Frame::Object(Members::new(alloc));
+        return nest(stack, frame, Mode::FirstName, place);
     }
     scalar(alloc, stack, place, byte)
 }
 
 /// The innermost list, which has no element, ends.
-fn close_list(mut stack: Stack<Frame>) -> Result<State, StepFault>
-    ensures { m.Gives result (m.close_list_of stack) None }
+fn close_list(stack: &mut Stack<Frame>) -> Result<Mode, StepFault>
+    ensures { m.Turns result stack.new (m.plain (m.close_list_of stack.old)) }
 {
     match stack.pop() {
-        Some(Frame::List(elements)) => at(stack, Mode::After(Json::List(elements))),
+        Some(Frame::List(elements)) => Ok(Mode::After(Json::List(elements))),
         _ => Err(StepFault::Refused),
     }
 }
 
-fn close_object(mut stack: Stack<Frame>) -> Result<State, StepFault>
-    ensures { m.Gives result (m.close_object_of stack) None }
+fn close_object(stack: &mut Stack<Frame>) -> Result<Mode, StepFault>
+    ensures { m.Turns result stack.new (m.plain (m.close_object_of stack.old)) }
 {
     match stack.pop() {
-        Some(Frame::Object(members)) => at(stack, Mode::After(Json::Object(members))),
+        Some(Frame::Object(members)) => Ok(Mode::After(Json::Object(members.into_seq()))),
         _ => Err(StepFault::Refused),
     }
 }
 
-fn first(alloc: Global, stack: Stack<Frame>, place: u64, byte: u8) -> Result<State, StepFault>
-    ensures { m.Takes result (m.first_of stack place byte) }
+fn first(
+    alloc: Global,
+    stack: &mut Stack<Frame>,
+    place: u64,
+    byte: u8,
+) -> Result<Mode, StepFault>
+    ensures { m.Turns result stack.new (m.first_of stack.old place byte) }
 {
     if is_blank(byte) {
-        return at(stack, Mode::First);
+        return Ok(Mode::First);
     }
     if byte == b']' {
         return close_list(stack);
@@ -145,23 +151,33 @@ fn first(alloc: Global, stack: Stack<Frame>, place: u64, byte: u8) -> Result<Sta
     begin(alloc, stack, place, byte)
 }
 
-fn name(alloc: Global, stack: Stack<Frame>, place: u64, byte: u8) -> Result<State, StepFault>
-    ensures { m.Gives result (m.name_of stack place byte) None }
+fn name(
+    alloc: Global,
+    stack: &mut Stack<Frame>,
+    place: u64,
+    byte: u8,
+) -> Result<Mode, StepFault>
+    ensures { m.Turns result stack.new (m.plain (m.name_of stack.old place byte)) }
 {
     if is_blank(byte) {
-        return at(stack, Mode::Name);
+        return Ok(Mode::Name);
     }
     if byte == b'"' {
-        return quote(alloc, stack, true, place);
+        return Ok(quote(alloc, true, place));
     }
     Err(StepFault::Refused)
 }
 
-fn first_name(alloc: Global, stack: Stack<Frame>, place: u64, byte: u8) -> Result<State, StepFault>
-    ensures { m.Gives result (m.first_name_of stack place byte) None }
+fn first_name(
+    alloc: Global,
+    stack: &mut Stack<Frame>,
+    place: u64,
+    byte: u8,
+) -> Result<Mode, StepFault>
+    ensures { m.Turns result stack.new (m.plain (m.first_name_of stack.old place byte)) }
 {
     if is_blank(byte) {
-        return at(stack, Mode::FirstName);
+        return Ok(Mode::FirstName);
     }
     if byte == b'}' {
         return close_object(stack);
@@ -169,75 +185,82 @@ fn first_name(alloc: Global, stack: Stack<Frame>, place: u64, byte: u8) -> Resul
     name(alloc, stack, place, byte)
 }
 
-fn colon(stack: Stack<Frame>, byte: u8) -> Result<State, StepFault>
-    ensures { m.Gives result (m.colon_of stack byte) None }
+fn colon(stack: &mut Stack<Frame>, byte: u8) -> Result<Mode, StepFault>
+    ensures { m.Turns result stack.new (m.plain (m.colon_of stack.old byte)) }
 {
     if is_blank(byte) {
-        return at(stack, Mode::Colon);
+        return Ok(Mode::Colon);
     }
     if byte == b':' {
-        return at(stack, Mode::Value);
+        return Ok(Mode::Value);
     }
     Err(StepFault::Refused)
 }
 
 /// A value is over: an element or a member's value, or the whole text.
 fn after_element(
-    mut stack: Stack<Frame>,
+    stack: &mut Stack<Frame>,
     mut elements: Seq<Json>,
     value: Json,
     byte: u8,
-) -> Result<State, StepFault>
-    ensures { m.Gives result (m.element_of stack elements value byte) None }
+) -> Result<Mode, StepFault>
+    ensures { m.Turns result stack.new (m.plain (m.element_of stack.old elements value byte)) }
 {
     if byte == b',' {
         elements.push(value)?;
         stack.push(Frame::List(elements))?;
-        return at(stack, Mode::Value);
+        return Ok(Mode::Value);
     }
     if byte == b']' {
         elements.push(value)?;
-        return at(stack, Mode::After(Json::List(elements)));
+        return Ok(Mode::After(Json::List(elements)));
     }
     Err(StepFault::Refused)
 }
 
 fn after_member(
-    mut stack: Stack<Frame>,
-    mut members: Seq<Member>,
-    name: Text,
-    value: Json,
+    alloc: Global,
+    stack: &mut Stack<Frame>,
+    mut members: Members,
+    member: Member,
     byte: u8,
-) -> Result<State, StepFault>
-    ensures { m.Gives result (m.member_of stack members name value byte) None }
+) -> Result<Mode, StepFault>
+    ensures { m.Turns result stack.new (m.plain (m.member_of stack.old members (out-Member member).name (out-Member member).value byte)) }
 {
     if byte == b',' {
-        members.push(Member { name, value })?;
+        members.push(alloc, member)?;
         stack.push(Frame::Object(members))?;
-        return at(stack, Mode::Name);
+        return Ok(Mode::Name);
     }
     if byte == b'}' {
-        members.push(Member { name, value })?;
-        return at(stack, Mode::After(Json::Object(members)));
+        members.push(alloc, member)?;
+        return Ok(Mode::After(Json::Object(members.into_seq())));
     }
     Err(StepFault::Refused)
 }
 
-fn after(mut stack: Stack<Frame>, value: Json, byte: u8) -> Result<State, StepFault>
-    ensures { m.Gives result (m.after_of stack value byte) None }
+fn after(
+    alloc: Global,
+    stack: &mut Stack<Frame>,
+    value: Json,
+    byte: u8,
+) -> Result<Mode, StepFault>
+    ensures { m.Turns result stack.new (m.plain (m.after_of stack.old value byte)) }
 {
     if is_blank(byte) {
-        return at(stack, Mode::After(value));
+        return Ok(Mode::After(value));
     }
     match stack.pop() {
         Some(Frame::List(elements)) => after_element(stack, elements, value, byte),
-        Some(Frame::Member(members, name)) => after_member(stack, members, name, value, byte),
+        Some(Frame::Member(members, name)) => {
+            after_member(alloc, stack, members, Member { name, value }, byte)
+        }
         _ => Err(StepFault::Refused),
     }
 }
 
-fn word(stack: Stack<Frame>, so_far: Letters, byte: u8) -> Result<State, StepFault>
-    ensures { m.Gives result (m.word_of stack so_far byte) None }
+fn word(stack: &mut Stack<Frame>, so_far: Letters, byte: u8) -> Result<Mode, StepFault>
+    ensures { m.Turns result stack.new (m.plain (m.word_of stack.old so_far byte)) }
 {
     let (wanted, mode) = match so_far {
         Letters::T => (b'r', Mode::Word(Letters::Tr)),
@@ -252,20 +275,20 @@ fn word(stack: Stack<Frame>, so_far: Letters, byte: u8) -> Result<State, StepFau
         Letters::Nul => (b'l', Mode::After(Json::Null)),
     };
     if byte == wanted {
-        at(stack, mode)
+        Ok(mode)
     } else {
         Err(StepFault::Refused)
     }
 }
 
 /// The number of a literal.
-fn number_of(literal: Seq<u8>, from: u64) -> Result<Json, StepFault>
+fn number_of(literal: Buffer, from: u64) -> Result<Json, StepFault>
     ensures { m.Gives result (m.number_json literal) (m.wide_of literal from) }
 {
     match Dec::read(literal.as_slice()) {
         Err(NumFault::NumberTooWide) => Err(StepFault::TooWide { at: from }),
         Err(NumFault::NotANumber) => Err(StepFault::Refused),
-        Ok(dec) => match Text::of_vec(literal.into_vec()) {
+        Ok(dec) => match literal.into_text() {
             None => Err(StepFault::Refused),
             Some(literal) => Ok(Json::Number(Num { literal, dec })),
         },
@@ -273,14 +296,14 @@ fn number_of(literal: Seq<u8>, from: u64) -> Result<Json, StepFault>
 }
 
 /// No more of a number comes: the longest whole one is judged.
-fn judge(part: Part, literal: &Seq<u8>, from: u64) -> Result<(), StepFault>
+fn judge(part: Part, literal: &[u8], from: u64) -> Result<(), StepFault>
     ensures { m.Gives result (Some tt) (m.unfinished_breaks part literal.now from) }
 {
     match behind_whole(part) {
         None => Ok(()),
         Some(behind) => {
             let whole = literal.len().saturating_sub(behind);
-            match Dec::read(&literal.as_slice()[..whole]) {
+            match Dec::read(&literal[..whole]) {
                 Err(NumFault::NumberTooWide) => Err(StepFault::TooWide { at: from }),
                 _ => Ok(()),
             }
@@ -289,61 +312,53 @@ fn judge(part: Part, literal: &Seq<u8>, from: u64) -> Result<(), StepFault>
 }
 
 /// A number is over, which it may be only behind a whole one.
-fn whole_number(part: Part, literal: Seq<u8>, from: u64) -> Result<Json, StepFault>
+fn whole_number(part: Part, literal: Buffer, from: u64) -> Result<Json, StepFault>
     ensures { m.Gives result (m.ended_value part literal) (m.ended_breaks part literal from) }
 {
     if is_whole(part) {
         return number_of(literal, from);
     }
-    judge(part, &literal, from)?;
+    judge(part, literal.as_slice(), from)?;
     Err(StepFault::Refused)
 }
 
 fn in_number(
-    stack: Stack<Frame>,
+    alloc: Global,
+    stack: &mut Stack<Frame>,
     part: Part,
-    mut literal: Seq<u8>,
+    mut literal: Buffer,
     from: u64,
     byte: u8,
-) -> Result<State, StepFault>
-    ensures { m.Takes result (m.number_move stack part literal from byte) }
+) -> Result<Mode, StepFault>
+    ensures { m.Turns result stack.new (m.number_move stack.old part literal from byte) }
 {
     match part_on(part, byte) {
         Some(part) => {
             literal.push(byte)?;
-            at(
-                stack,
-                Mode::Number {
-                    part,
-                    literal,
-                    from,
-                },
-            )
+            Ok(Mode::Number {
+                part,
+                literal,
+                from,
+            })
         }
         None => {
             let value = whole_number(part, literal, from)?;
-            after(stack, value, byte)
+            after(alloc, stack, value, byte)
         }
     }
 }
 
-fn has_name(members: &[Member], name: &Text) -> bool
-    ensures { result ≡ m.has_name members.now name.now }
-{
-    members.iter().any(|member| member.name == *name)
-}
-
 /// A name is over.
-fn named(mut stack: Stack<Frame>, name: Text, from: u64) -> Result<State, StepFault>
-    ensures { m.Takes result (m.named_of stack name from) }
+fn named(stack: &mut Stack<Frame>, name: Text, from: u64) -> Result<Mode, StepFault>
+    ensures { m.Turns result stack.new (m.named_of stack.old name from) }
 {
     match stack.pop() {
         Some(Frame::Object(members)) => {
-            if has_name(members.as_slice(), &name) {
+            if members.has(&name) {
                 return Err(StepFault::Duplicate { at: from });
             }
             stack.push(Frame::Member(members, name))?;
-            at(stack, Mode::Colon)
+            Ok(Mode::Colon)
         }
         _ => Err(StepFault::Refused),
     }
@@ -351,25 +366,25 @@ fn named(mut stack: Stack<Frame>, name: Text, from: u64) -> Result<State, StepFa
 
 /// The closing quote.
 fn unquote(
-    stack: Stack<Frame>,
+    stack: &mut Stack<Frame>,
     is_name: bool,
-    bytes: Seq<u8>,
+    bytes: Buffer,
     from: u64,
-) -> Result<State, StepFault>
-    ensures { m.Takes result (m.unquote_of stack is_name bytes from) }
+) -> Result<Mode, StepFault>
+    ensures { m.Turns result stack.new (m.unquote_of stack.old is_name bytes from) }
 {
-    match Text::of_vec(bytes.into_vec()) {
+    match bytes.into_text() {
         None => Err(StepFault::Refused),
         Some(text) => {
             if is_name {
                 return named(stack, text, from);
             }
-            at(stack, Mode::After(Json::Text(text)))
+            Ok(Mode::After(Json::Text(text)))
         }
     }
 }
 
-fn add(mut bytes: Seq<u8>, added: Added) -> Result<Seq<u8>, StepFault>
+fn add(mut bytes: Buffer, added: Added) -> Result<Buffer, StepFault>
     ensures { m.Gives result (m.with_added bytes added) None }
 {
     match added {
@@ -396,41 +411,38 @@ fn is_plain(piece: Piece) -> bool
 
 /// More of a text.
 fn grown(
-    stack: Stack<Frame>,
+    stack: &mut Stack<Frame>,
     is_name: bool,
     piece: Piece,
-    bytes: Seq<u8>,
+    bytes: Buffer,
     from: u64,
     byte: u8,
-) -> Result<State, StepFault>
-    ensures { m.Gives result (m.grown_of stack is_name piece bytes from byte) None }
+) -> Result<Mode, StepFault>
+    ensures { m.Turns result stack.new (m.plain (m.grown_of stack.old is_name piece bytes from byte)) }
 {
     match grow(piece, byte) {
         None => Err(StepFault::Refused),
         Some(Grown { piece, added }) => {
             let bytes = add(bytes, added)?;
-            at(
-                stack,
-                Mode::Quoted {
-                    is_name,
-                    piece,
-                    bytes,
-                    from,
-                },
-            )
+            Ok(Mode::Quoted {
+                is_name,
+                piece,
+                bytes,
+                from,
+            })
         }
     }
 }
 
 fn in_quotes(
-    stack: Stack<Frame>,
+    stack: &mut Stack<Frame>,
     is_name: bool,
     piece: Piece,
-    bytes: Seq<u8>,
+    bytes: Buffer,
     from: u64,
     byte: u8,
-) -> Result<State, StepFault>
-    ensures { m.Takes result (m.quoted_move stack is_name piece bytes from byte) }
+) -> Result<Mode, StepFault>
+    ensures { m.Turns result stack.new (m.quoted_move stack.old is_name piece bytes from byte) }
 {
     if is_plain(piece) {
         if byte == b'"' {
@@ -441,11 +453,15 @@ fn in_quotes(
     grown(stack, is_name, piece, bytes, from, byte)
 }
 
-#[tactic(auto, unfolding(crate::specs::Machine::step_of))]
-pub(crate) fn step(alloc: Global, state: State, place: u64, byte: u8) -> Result<State, StepFault>
-    ensures { m.Takes result (m.step_of state place byte) }
+fn turn(
+    alloc: Global,
+    stack: &mut Stack<Frame>,
+    mode: Mode,
+    place: u64,
+    byte: u8,
+) -> Result<Mode, StepFault>
+    ensures { m.Turns result stack.new (m.step_in stack.old mode place byte) }
 {
-    let State { stack, mode } = state;
     match mode {
         Mode::Value => begin(alloc, stack, place, byte),
         Mode::First => first(alloc, stack, place, byte),
@@ -457,56 +473,30 @@ pub(crate) fn step(alloc: Global, state: State, place: u64, byte: u8) -> Result<
             part,
             literal,
             from,
-        } => in_number(stack, part, literal, from, byte),
+        } => in_number(alloc, stack, part, literal, from, byte),
         Mode::Quoted {
             is_name,
             piece,
             bytes,
             from,
         } => in_quotes(stack, is_name, piece, bytes, from, byte),
-        Mode::After(value) => after(stack, value, byte),
+        Mode::After(value) => after(alloc, stack, value, byte),
     }
 }
 
-/// The bytes that come most, in place.
+/// One more byte.
 #[tactic(auto, unfolding(crate::specs::Machine::step_of))]
-pub(crate) fn quick(state: &mut State, byte: u8) -> Result<bool, StepFault>
-    ensures { m.Quick result state.old state.new byte }
+pub(crate) fn step(
+    alloc: Global,
+    state: &mut State,
+    place: u64,
+    byte: u8,
+) -> Result<(), StepFault>
+    ensures { m.Steps result state.new (m.step_of state.old place byte) }
 {
-    match &mut state.mode {
-        Mode::Quoted {
-            piece: Piece::Plain,
-            bytes,
-            ..
-        } => {
-            if byte < 32 {
-                return Ok(false);
-            }
-            if byte == b'"' {
-                return Ok(false);
-            }
-            if byte == b'\\' {
-                return Ok(false);
-            }
-            bytes.push(byte)?;
-            Ok(true)
-        }
-        Mode::Quoted { .. } | Mode::Word(_) => Ok(false),
-        Mode::Number { part, literal, .. } => match part_on(*part, byte) {
-            None => Ok(false),
-            Some(next) => {
-                literal.push(byte)?;
-                *part = next;
-                Ok(true)
-            }
-        },
-        Mode::Value | Mode::First | Mode::FirstName | Mode::Name | Mode::Colon | Mode::After(_) => {
-            if is_blank(byte) {
-                return Ok(true);
-            }
-            Ok(false)
-        }
-    }
+    let mode = mem::replace(&mut state.mode, Mode::Value);
+    state.mode = turn(alloc, &mut state.stack, mode, place, byte)?;
+    Ok(())
 }
 
 /// The text is over.
