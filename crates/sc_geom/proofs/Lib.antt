@@ -1,0 +1,10 @@
+pub mod Lists
+pub mod Depicting
+pub mod Paths
+pub mod Drafts
+pub mod Finished
+pub mod Members
+pub mod Steps
+pub mod Results
+pub mod Smallest
+pub mod Spans

@@ -1,0 +1,10 @@
+use Rattle.std.proofs.Common.{◌≡◌, List, Option, Some, take}
+use Rattle.sc_geom.specs.declared.point.Pt.{Pt}
+use Rattle.sc_geom.specs.Shapes.{beside}
+use Rattle.sc_geom.specs.Sketch.{Sketch}
+use Rattle.sc_geom.specs.Drawn.{line_of, area_of, all_read, lines_only, areas_only}
+use Rattle.sc_geom.specs.Building.{IsDraft}
+use Rattle.sc_geom.proofs.coordinates.add_lines.Given as goal
+
+abbrev pub invariant-loop-element : goal.invariant-loop-element
+invariant-loop-element l = (s : Sketch) → IsDraft l.fn.draft s → (so_far : List (List (Option Pt))) × (all_read line_of (take l.element-index l.elements) ≡ Some so_far) × IsDraft l.draft (beside s (lines_only so_far))

@@ -1,0 +1,13 @@
+pub mod Point
+pub mod Rectangle
+pub mod Shapes
+pub mod Geometry
+pub mod Tree
+pub mod Place
+pub mod Sketch
+pub mod Kinds
+pub mod Drawn
+pub mod Depicts
+pub mod Answers
+pub mod Building
+pub mod Rects

@@ -1,0 +1,30 @@
+//! Geometries on a grid of 10^-7 degree.
+#![tactic(auto)]
+
+mod area;
+mod boxes;
+mod coordinates;
+mod draft;
+mod extent;
+mod fault;
+mod geom;
+mod kind;
+mod laws;
+mod outline;
+mod path;
+mod place;
+mod point;
+mod read;
+mod rects;
+mod tree;
+
+pub use boxes::GridBox;
+pub use extent::box_of;
+pub use fault::GeomFault;
+pub use geom::Geom;
+pub use laws::tree_depicts_one;
+pub use outline::geom_of_rects;
+pub use point::Pt;
+pub use read::geom_of_json;
+pub use rects::{Rects, rects_of_bbox};
+pub use sc_base::Seq;
