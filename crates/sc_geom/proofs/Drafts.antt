@@ -34,7 +34,6 @@ or_second false false true false = refl
 or_second false false false true = refl
 or_second false false false false = refl
 
-
 points_beside : (s : Sketch) (places : List (Option Pt)) → record { points = s.points ++ places; lines = s.lines; areas = s.areas } ≡ beside s (points_only places)
 points_beside s places = shapes_equal _ _ refl (sym (append-nil s.lines)) (sym (append-nil s.areas))
 
@@ -53,14 +52,14 @@ points_added draft draft' path s places is along points lines areas count outsid
       areas_are = areas ∙ is.areas_are;
       count_is = omega (arith, count, is.count_is, lengths);
       outside_is = outside ∙ ap (λ (b : Bool). b || path.outside) is.outside_is ∙ ap (λ (b : Bool). any_outside s || b) along.outside_is
-        ∙ or_first (list_any is_none s.points) (list_any is_none (joined s.lines)) (list_any is_none (joined (rings_of s))) (list_any is_none places)
-        ∙ ap (λ (b : Bool). (b || list_any is_none (joined s.lines)) || list_any is_none (joined (rings_of s))) (sym (list_any-append is_none s.points places));
+          ∙ or_first (list_any is_none s.points) (list_any is_none (joined s.lines)) (list_any is_none (joined (rings_of s))) (list_any is_none places)
+          ∙ ap (λ (b : Bool). (b || list_any is_none (joined s.lines)) || list_any is_none (joined (rings_of s))) (sym (list_any-append is_none s.points places));
       open_is = opened ∙ is.open_is;
       points_in_world = subst (All IsInWorld) (sym points) (All-append IsInWorld draft.points.items path.points.items is.points_in_world along.in_world);
       lines_in_world = subst (λ (l : List (List Pt)). All IsInWorld (joined l)) (sym lines) is.lines_in_world;
       rings_in_world = subst (λ (l : List (List (List Pt))). All IsInWorld (joined (joined l))) (sym areas) is.rings_in_world;
       long_lines = subst (All (λ (line : List Pt). 2 ≤ length line)) (sym lines) is.long_lines;
-      filled_areas = subst (All (λ (area : List (List Pt)). 1 ≤ length area)) (sym areas) is.filled_areas
+      filled_areas = subst (All (λ (area : List (List Pt)). 1 ≤ length area)) (sym areas) is.filled_areas;
     } in
     subst (IsDraft draft') (points_beside s places) fact
 
@@ -77,13 +76,13 @@ line_added draft draft' path s places is along long points lines areas count out
       areas_are = areas ∙ is.areas_are;
       count_is = omega (arith, count, is.count_is, lengths);
       outside_is = outside ∙ ap (λ (b : Bool). b || path.outside) is.outside_is ∙ ap (λ (b : Bool). any_outside s || b) along.outside_is
-        ∙ or_second (list_any is_none s.points) (list_any is_none (joined s.lines)) (list_any is_none (joined (rings_of s))) (list_any is_none places)
-        ∙ ap (λ (b : Bool). (list_any is_none s.points || b) || list_any is_none (joined (rings_of s))) (sym (any_joined-push is_none s.lines places));
+          ∙ or_second (list_any is_none s.points) (list_any is_none (joined s.lines)) (list_any is_none (joined (rings_of s))) (list_any is_none places)
+          ∙ ap (λ (b : Bool). (list_any is_none s.points || b) || list_any is_none (joined (rings_of s))) (sym (any_joined-push is_none s.lines places));
       open_is = opened ∙ is.open_is;
       points_in_world = subst (All IsInWorld) (sym points) is.points_in_world;
       lines_in_world = subst (λ (l : List (List Pt)). All IsInWorld (joined l)) (sym lines) (subst (All IsInWorld) (sym (joined-push draft.lines.items path.points.items)) (All-append IsInWorld (joined draft.lines.items) path.points.items is.lines_in_world along.in_world));
       rings_in_world = subst (λ (l : List (List (List Pt))). All IsInWorld (joined (joined l))) (sym areas) is.rings_in_world;
       long_lines = subst (All (λ (line : List Pt). 2 ≤ length line)) (sym lines) (All-push (λ (line : List Pt). 2 ≤ length line) draft.lines.items path.points.items is.long_lines (omega (arith, long, same_length)));
-      filled_areas = subst (All (λ (area : List (List Pt)). 1 ≤ length area)) (sym areas) is.filled_areas
+      filled_areas = subst (All (λ (area : List (List Pt)). 1 ≤ length area)) (sym areas) is.filled_areas;
     } in
     subst (IsDraft draft') (line_beside s places) fact

@@ -78,7 +78,7 @@ ring_closed (p ∷ ps) o h =
     let long : 4 ≤ length (p ∷ ps) = grind (arith, nat_tests) in
     record {
       long = subst (λ (n : ℕ). 4 ≤ n) (sym (length-map (p ∷ ps) settled)) long;
-      closed = ap Some (ends ∙ sym (last_behind-map settled p ps))
+      closed = ap Some (ends ∙ sym (last_behind-map settled p ps));
     }
 
 rings_closed : (rings : List (List (Option Pt))) → list_any is_open rings ≡ false → list_any is_none (joined rings) ≡ false → All IsRing (map (map settled) rings)
@@ -113,15 +113,15 @@ completed draft s is inside closed some =
     let front = or_parts (list_any is_none s.points) (list_any is_none (joined s.lines)) all.0 in
     record {
       same = sym (shapes_equal _ _
-        (ap (map Some) is.points_are ∙ all_inside s.points front.0)
-        (ap (map (map Some)) is.lines_are ∙ all_lines_inside s.lines front.1)
-        (ap (map (map (map Some))) is.areas_are ∙ all_areas_inside s.areas all.1));
+          (ap (map Some) is.points_are ∙ all_inside s.points front.0)
+          (ap (map (map Some)) is.lines_are ∙ all_lines_inside s.lines front.1)
+          (ap (map (map (map Some))) is.areas_are ∙ all_areas_inside s.areas all.1));
       sound = record {
         in_world = All-append IsInWorld (draft.points.items ++ joined draft.lines.items) (joined (joined draft.areas.items))
-          (All-append IsInWorld draft.points.items (joined draft.lines.items) is.points_in_world is.lines_in_world) is.rings_in_world;
+            (All-append IsInWorld draft.points.items (joined draft.lines.items) is.points_in_world is.lines_in_world) is.rings_in_world;
         lines = is.long_lines;
         areas = is.filled_areas;
         rings = subst (All IsRing) (sym (drafted_rings draft s is)) (rings_closed (rings_of s) (sym is.open_is ∙ closed) all.1);
-        some = subst (λ (n : ℕ). 1 ≤ n) (sym (count_drafted draft s is)) some
-      }
+        some = subst (λ (n : ℕ). 1 ≤ n) (sym (count_drafted draft s is)) some;
+      };
     }

@@ -42,11 +42,12 @@ path_pushed path path' places place is points first last outside world =
     record {
       points_are = points ∙ ap (λ (l : List Pt). l ++ settled place ∷ []) is.points_are ∙ sym (map-append settled places (place ∷ []));
       first_is = first_pushed places place path.first path'.first is.first_is (elim first [
-        inl h ↦ inl (sym same_length ∙ h.0, h.1)
-      | inr h ↦ inr (subst (λ (n : ℕ). 1 ≤ n) same_length h.0, h.1) ]);
+        | inl h ↦ inl (sym same_length ∙ h.0, h.1)
+        | inr h ↦ inr (subst (λ (n : ℕ). 1 ≤ n) same_length h.0, h.1)
+      ]);
       last_is = last ∙ sym (ap place_at (last_of-push places place));
       outside_is = outside ∙ ap (λ (b : Bool). b || is_none place) is.outside_is ∙ sym (any_push is_none places place);
-      in_world = subst (All IsInWorld) (sym points) (All-push IsInWorld path.points.items (settled place) is.in_world world)
+      in_world = subst (All IsInWorld) (sym points) (All-push IsInWorld path.points.items (settled place) is.in_world world);
     }
 
 pub area_pushed : (area area' : Area) (ring : Path) (rings : List (List (Option Pt))) (places : List (Option Pt)) → IsArea area rings → IsPath ring places →
@@ -58,7 +59,7 @@ area_pushed area area' ring rings places is path items count outside opened =
       count_is = count ∙ ap (λ (n : ℕ). n + length places) is.count_is ∙ sym (length_joined-push rings places);
       outside_is = outside ∙ ap (λ (b : Bool). b || ring.outside) is.outside_is ∙ ap (λ (b : Bool). list_any is_none (joined rings) || b) path.outside_is ∙ sym (any_joined-push is_none rings places);
       open_is = opened ∙ ap (λ (b : Bool). b || is_open places) is.open_is ∙ sym (any_push is_open rings places);
-      in_world = subst (λ (l : List (List Pt)). All IsInWorld (joined l)) (sym items) (subst (All IsInWorld) (sym (joined-push area.rings.items ring.points.items)) (All-append IsInWorld (joined area.rings.items) ring.points.items is.in_world path.in_world))
+      in_world = subst (λ (l : List (List Pt)). All IsInWorld (joined l)) (sym items) (subst (All IsInWorld) (sym (joined-push area.rings.items ring.points.items)) (All-append IsInWorld (joined area.rings.items) ring.points.items is.in_world path.in_world));
     }
 
 pub is_none_from : (place : Option Pt) (b : Bool) → is_some place ≡ not b → b ≡ is_none place

@@ -25,21 +25,30 @@ pub smallest_first : (p : Pt) (r : Rectangle) → r.west ≡ p.x → r.south ≡
 smallest_first p r w s e n = record {
   holds = All-cons (Holds r) p [] (record { west = omega (arith, ints); east = omega (arith, ints); south = omega (arith, ints); north = omega (arith, ints) }) (All-nil (Holds r));
   least = λ t all. let h = All-head (Holds t) p [] all in
-    record { west = omega (arith, ints, h.west); east = omega (arith, ints, h.east); south = omega (arith, ints, h.south); north = omega (arith, ints, h.north) } }
+      record { west = omega (arith, ints, h.west); east = omega (arith, ints, h.east); south = omega (arith, ints, h.south); north = omega (arith, ints, h.north) };
+}
 
 pub smallest_more : (r : Rectangle) (p : Pt) (before : List Pt) (c : Rectangle) → IsSmallest r before →
     c.west ≡ int_min r.west p.x → c.south ≡ int_min r.south p.y → c.east ≡ int_max r.east p.x → c.north ≡ int_max r.north p.y → IsSmallest c (before ++ p ∷ [])
 smallest_more r p before c is w s e n = record {
   holds = All-push (Holds c) before p
-    (All-weaker (Holds r) (Holds c) (λ q h. record {
-      west = omega (arith, ints, clamps, h.west); east = omega (arith, ints, clamps, h.east); south = omega (arith, ints, clamps, h.south); north = omega (arith, ints, clamps, h.north) }) before is.holds)
-    (record { west = omega (arith, ints, clamps); east = omega (arith, ints, clamps); south = omega (arith, ints, clamps); north = omega (arith, ints, clamps) });
+      (All-weaker (Holds r) (Holds c) (λ q h. record {
+        west = omega (arith, ints, clamps, h.west);
+        east = omega (arith, ints, clamps, h.east);
+        south = omega (arith, ints, clamps, h.south);
+        north = omega (arith, ints, clamps, h.north);
+      }) before is.holds)
+      (record { west = omega (arith, ints, clamps); east = omega (arith, ints, clamps); south = omega (arith, ints, clamps); north = omega (arith, ints, clamps) });
   least = λ t all.
-    let old = is.least t (all_front (Holds t) before (p ∷ []) all) in
-    let new = all_last (Holds t) before p all in
-    record {
-      west = omega (arith, ints, clamps, old.west, new.west); east = omega (arith, ints, clamps, old.east, new.east);
-      south = omega (arith, ints, clamps, old.south, new.south); north = omega (arith, ints, clamps, old.north, new.north) } }
+      let old = is.least t (all_front (Holds t) before (p ∷ []) all) in
+      let new = all_last (Holds t) before p all in
+      record {
+        west = omega (arith, ints, clamps, old.west, new.west);
+        east = omega (arith, ints, clamps, old.east, new.east);
+        south = omega (arith, ints, clamps, old.south, new.south);
+        north = omega (arith, ints, clamps, old.north, new.north);
+      };
+}
 
 pub one_more_taken : {X : Type 0} (before xs : List X) (i : ℕ) (x : X) → i < length xs → x ≡ get_or xs i x → (before ++ take i xs) ++ x ∷ [] ≡ before ++ take (i + 1) xs
 one_more_taken before xs i x h is =

@@ -19,14 +19,14 @@ mutual
   pub data Depicts : Json → Sketch → Type 0 where
     -- a kind with coordinates
     by_coordinates : (tree : Json) (members : List Member) (kind : Kind) (coordinates : Json) (s : Sketch) →
-      members_of tree ≡ Some members → kind_in members ≡ Some kind →
-      member_named coordinates_name members ≡ Some coordinates → drawn kind coordinates ≡ Some s →
-      Depicts tree s
+        members_of tree ≡ Some members → kind_in members ≡ Some kind →
+        member_named coordinates_name members ≡ Some coordinates → drawn kind coordinates ≡ Some s →
+        Depicts tree s
     -- a collection, whose geometries are depicted side by side, in order (§3.1.8)
     by_geometries : (tree : Json) (members : List Member) (geometries : Json) (trees : List Json) (s : Sketch) →
-      members_of tree ≡ Some members → kind_in members ≡ Some GeometryCollection →
-      member_named geometries_name members ≡ Some geometries → list_of geometries ≡ Some trees → AllDepict trees s →
-      Depicts tree s
+        members_of tree ≡ Some members → kind_in members ≡ Some GeometryCollection →
+        member_named geometries_name members ≡ Some geometries → list_of geometries ≡ Some trees → AllDepict trees s →
+        Depicts tree s
 
   pub data AllDepict : List Json → Sketch → Type 0 where
     none_left : AllDepict [] nothing

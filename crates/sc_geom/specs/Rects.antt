@@ -48,7 +48,8 @@ pub record IsTwo (s : Sides) (rects : Rects) : Type 0 where
   pub east_in : west_end ≤ℤ s.east
   pub same : rects ≡ record {
     first = record { west = s.west; south = s.south; east = east_end; north = s.north };
-    second = Some (record { west = west_end; south = s.south; east = s.east; north = s.north }) }
+    second = Some (record { west = west_end; south = s.south; east = s.east; north = s.north });
+  }
 
 abbrev pub Spans : Sides → Rects → Type 0
 Spans s rects = IsOne s rects ⊎ IsTwo s rects

@@ -31,13 +31,15 @@ impl Area {
 
     /// Adds a ring at the end.
     pub(crate) fn push(&mut self, ring: Path) -> Result<(), AllocError>
-        ensures { (rings : List (List (Option PtRecord))) (places : List (Option PtRecord)) → IsArea self.old rings → IsPath ring places →
-            OnOk result (IsArea self.new (rings ++ places ∷ [])) }
+        ensures { (rings : List (List (Option PtRecord))) (places : List (Option PtRecord)) →
+            IsArea self.old rings → IsPath ring places → OnOk result (IsArea self.new (rings ++ places ∷ [])) }
     {
         let count = added(self.count, ring.len() as u64)?;
         let is_open = ring.is_open();
         let Path {
-            points, outside, ..
+            points,
+            outside,
+            ..
         } = ring;
         self.rings.push(Seq::of(points))?;
         self.count = count;

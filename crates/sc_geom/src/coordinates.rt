@@ -98,7 +98,8 @@ fn read_area(alloc: Global, tree: &Json) -> Result<Area, GeomFault>
 }
 
 fn add_lines(alloc: Global, tree: &Json, draft: &mut Draft) -> Result<(), GeomFault>
-    ensures { (s : Sketch) → IsDraft draft.old s → Adds result (option_map lines_only (each line_of tree.now)) s draft.new }
+    ensures { (s : Sketch) → IsDraft draft.old s →
+        Adds result (option_map lines_only (each line_of tree.now)) s draft.new }
 {
     let Some(elements) = elements_of(tree) else {
         return Err(GeomFault::BadShape);
@@ -111,7 +112,8 @@ fn add_lines(alloc: Global, tree: &Json, draft: &mut Draft) -> Result<(), GeomFa
 }
 
 fn add_areas(alloc: Global, tree: &Json, draft: &mut Draft) -> Result<(), GeomFault>
-    ensures { (s : Sketch) → IsDraft draft.old s → Adds result (option_map areas_only (each area_of tree.now)) s draft.new }
+    ensures { (s : Sketch) → IsDraft draft.old s →
+        Adds result (option_map areas_only (each area_of tree.now)) s draft.new }
 {
     let Some(elements) = elements_of(tree) else {
         return Err(GeomFault::BadShape);
@@ -124,7 +126,8 @@ fn add_areas(alloc: Global, tree: &Json, draft: &mut Draft) -> Result<(), GeomFa
 }
 
 fn add_point(alloc: Global, tree: &Json, draft: &mut Draft) -> Result<(), GeomFault>
-    ensures { (s : Sketch) → IsDraft draft.old s → Adds result (option_map (λ place. points_only (place ∷ [])) (position_of tree.now)) s draft.new }
+    ensures { (s : Sketch) → IsDraft draft.old s →
+        Adds result (option_map (λ place. points_only (place ∷ [])) (position_of tree.now)) s draft.new }
 {
     let mut path = Path::new(alloc, 1)?;
     path.push(read_position(tree)?)?;
@@ -133,7 +136,12 @@ fn add_point(alloc: Global, tree: &Json, draft: &mut Draft) -> Result<(), GeomFa
 }
 
 /// Adds what the coordinates of a kind draw.
-pub(crate) fn add_coordinates(alloc: Global, kind: Kind, tree: &Json, draft: &mut Draft) -> Result<(), GeomFault>
+pub(crate) fn add_coordinates(
+    alloc: Global,
+    kind: Kind,
+    tree: &Json,
+    draft: &mut Draft,
+) -> Result<(), GeomFault>
     ensures { (s : Sketch) → IsDraft draft.old s → Adds result (drawn kind tree.now) s draft.new }
 {
     match kind {

@@ -55,12 +55,14 @@ impl Draft {
 
     /// Adds points at the end.
     pub(crate) fn add_points(&mut self, path: Path) -> Result<(), AllocError>
-        ensures { (s : Sketch) (places : List (Option PtRecord)) → IsDraft self.old s → IsPath path places →
-            OnOk result (IsDraft self.new (beside s (points_only places))) }
+        ensures { (s : Sketch) (places : List (Option PtRecord)) →
+            IsDraft self.old s → IsPath path places → OnOk result (IsDraft self.new (beside s (points_only places))) }
     {
         let count = added(self.count, path.len() as u64)?;
         let Path {
-            points, outside, ..
+            points,
+            outside,
+            ..
         } = path;
         self.points.extend_from_slice(points.as_slice())?;
         self.count = count;
@@ -70,12 +72,15 @@ impl Draft {
 
     /// Adds a line at the end.
     pub(crate) fn add_line(&mut self, path: Path) -> Result<(), AllocError>
-        ensures { (s : Sketch) (places : List (Option PtRecord)) → IsDraft self.old s → IsPath path places → 2 ≤ length places →
+        ensures { (s : Sketch) (places : List (Option PtRecord)) →
+            IsDraft self.old s → IsPath path places → 2 ≤ length places →
             OnOk result (IsDraft self.new (beside s (lines_only (places ∷ [])))) }
     {
         let count = added(self.count, path.len() as u64)?;
         let Path {
-            points, outside, ..
+            points,
+            outside,
+            ..
         } = path;
         self.lines.push(Seq::of(points))?;
         self.count = count;
@@ -85,7 +90,8 @@ impl Draft {
 
     /// Adds an area at the end.
     pub(crate) fn add_area(&mut self, area: Area) -> Result<(), AllocError>
-        ensures { (s : Sketch) (rings : List (List (Option PtRecord))) → IsDraft self.old s → IsArea area rings → 1 ≤ length rings →
+        ensures { (s : Sketch) (rings : List (List (Option PtRecord))) →
+            IsDraft self.old s → IsArea area rings → 1 ≤ length rings →
             OnOk result (IsDraft self.new (beside s (areas_only (rings ∷ [])))) }
     {
         let Area {

@@ -49,7 +49,8 @@ fn over_lists(extent: Option<GridBox>, lists: &[Seq<Pt>]) -> Option<GridBox>
 
 fn over_areas(extent: Option<GridBox>, areas: &[Seq<Seq<Pt>>]) -> Option<GridBox>
     requires { All IsInWorld (joined (joined areas.now)) }
-    ensures { (before : List PtRecord) → Encloses extent before → Encloses result (before ++ joined (joined areas.now)) }
+    ensures { (before : List PtRecord) → Encloses extent before →
+        Encloses result (before ++ joined (joined areas.now)) }
 {
     let mut extent = extent;
     for rings in areas {
@@ -58,7 +59,7 @@ fn over_areas(extent: Option<GridBox>, areas: &[Seq<Seq<Pt>>]) -> Option<GridBox
     extent
 }
 
-/// The smallest box that holds every position.
+/// The smallest box that holds every position. It takes no memory.
 pub fn box_of(geom: &Geom) -> GridBox
     ensures { IsSmallest result (positions_of geom.now) }
 {

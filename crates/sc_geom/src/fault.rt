@@ -15,6 +15,7 @@ pub enum GeomFault {
     OutOfWorld,
     /// There are more positions than may be, those that close rings counted too.
     TooManyPositions { count: u64 },
+    /// Memory ran out, at any place.
     OutOfMemory,
 }
 

@@ -2,6 +2,12 @@ use crate::point::Pt;
 use sc_base::Seq;
 use std::marker::Model;
 
+/// A geometry on the grid, in steps of 10^-7 degree, with every kind of RFC 7946 §3.1 flattened into points, lines and
+/// areas. Contracts see it as the record of its three lists.
+///
+/// It has at least one position. `x` is from -3,600,000,000 to 3,600,000,000 and `y` from -900,000,000 to 900,000,000.
+/// A line has at least 2 positions, an area at least one ring, and a ring at least 4 positions, of which the last
+/// equals the first. A hole is a further ring of its area.
 #[derive(Debug, Drop)]
 pub struct Geom {
     points: Seq<Pt>,
@@ -25,6 +31,7 @@ impl Geom {
     ghost use Rattle.std.specs.Prelude.{◌≡◌};
     ghost use Rattle.sc_geom.specs.Geometry.{IsGeometry};
 
+    /// The geometry of lists that keep the condition.
     pub(crate) fn of(points: Seq<Pt>, lines: Seq<Seq<Pt>>, areas: Seq<Seq<Seq<Pt>>>) -> Geom
         requires { IsGeometry (record { points = points; lines = lines; areas = areas }) }
         ensures { result ≡ record { points = points; lines = lines; areas = areas } }
@@ -36,6 +43,7 @@ impl Geom {
         }
     }
 
+    /// The points, and that every geometry keeps its condition.
     pub fn points(&self) -> &[Pt]
         ensures points { result.now ≡ self.now.points }
         ensures kept { IsGeometry self.now }
@@ -43,6 +51,7 @@ impl Geom {
         self.points.as_slice()
     }
 
+    /// The lines, each as its positions in order.
     pub fn lines(&self) -> &[Seq<Pt>]
         ensures lines { result.now ≡ self.now.lines }
         ensures kept { IsGeometry self.now }
@@ -50,6 +59,7 @@ impl Geom {
         self.lines.as_slice()
     }
 
+    /// The areas, each as its rings, each ring as its positions in order.
     pub fn areas(&self) -> &[Seq<Seq<Pt>>]
         ensures areas { result.now ≡ self.now.areas }
         ensures kept { IsGeometry self.now }

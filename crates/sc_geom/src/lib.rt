@@ -1,4 +1,5 @@
-//! Geometries on a grid of 10^-7 degree.
+//! Geometries on a grid whose steps are 10^-7 degree: read from GeoJSON (RFC 7946) with every kind flattened into
+//! points, lines and areas, their smallest boxes, and the boxes of bounding boxes.
 #![tactic(auto)]
 
 mod area;
@@ -16,6 +17,8 @@ mod place;
 mod point;
 mod read;
 mod rects;
+#[cfg(test)]
+mod tests;
 mod tree;
 
 pub use boxes::GridBox;

@@ -33,7 +33,8 @@ fn area_of(alloc: Global, extent: &GridBox) -> Result<Seq<Seq<Pt>>, AllocError>
     Ok(Seq::of(rings))
 }
 
-/// One area for each box, with one ring: west-south, east-south, east-north, west-north, west-south.
+/// The geometry of boxes: one area for each, with one ring, from west-south over east-south, east-north and west-north
+/// back to west-south.
 pub fn geom_of_rects(alloc: Global, rects: &Rects) -> Result<Geom, AllocError>
     ensures { IfOk result (λ geom. geom ≡ geometry_of rects.now) }
 {

@@ -42,7 +42,8 @@ impl Path {
     /// Adds a position at the end, which is in range, or none where it is outside the world.
     pub(crate) fn push(&mut self, place: Option<Pt>) -> Result<(), AllocError>
         requires { IfSome place IsInWorld }
-        ensures { (places : List (Option PtRecord)) → IsPath self.old places → OnOk result (IsPath self.new (places ++ place ∷ [])) }
+        ensures { (places : List (Option PtRecord)) → IsPath self.old places →
+            OnOk result (IsPath self.new (places ++ place ∷ [])) }
     {
         if self.points.is_empty() {
             self.first = place;

@@ -6,6 +6,7 @@ use crate::point::Pt;
 use sc_decimal::Dec;
 
 const MOST_X: i64 = 3_600_000_000;
+
 const MOST_Y: i64 = 900_000_000;
 
 #[tactic(auto, unfolding(crate::specs::Place::step_between))]

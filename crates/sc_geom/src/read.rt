@@ -29,7 +29,8 @@ fn add_geometry(alloc: Global, tree: &Json, draft: &mut Draft) -> Result<(), Geo
 
 #[cycle(geometry)]
 fn add_members(alloc: Global, members: &[Member], draft: &mut Draft) -> Result<(), GeomFault>
-    ensures { (tree : JsonTree) (s : Sketch) → members_of tree ≡ Some members.now → IsDraft draft.old s → Depicted result tree s draft.new }
+    ensures { (tree : JsonTree) (s : Sketch) → members_of tree ≡ Some members.now → IsDraft draft.old s →
+        Depicted result tree s draft.new }
 {
     let Some(kind) = kind_in(members) else {
         return Err(GeomFault::BadShape);
@@ -45,8 +46,8 @@ fn add_members(alloc: Global, members: &[Member], draft: &mut Draft) -> Result<(
 
 #[cycle(geometry)]
 fn add_collection(alloc: Global, members: &[Member], draft: &mut Draft) -> Result<(), GeomFault>
-    ensures { (tree : JsonTree) (s : Sketch) → members_of tree ≡ Some members.now → kind_in members.now ≡ Some GeometryCollection →
-        IsDraft draft.old s → Depicted result tree s draft.new }
+    ensures { (tree : JsonTree) (s : Sketch) → members_of tree ≡ Some members.now →
+        kind_in members.now ≡ Some GeometryCollection → IsDraft draft.old s → Depicted result tree s draft.new }
 {
     match index_named(members, geometries_name()) {
         Some(at) => match &members[at].value {
@@ -67,7 +68,12 @@ fn add_geometries(alloc: Global, trees: &[Json], draft: &mut Draft) -> Result<()
     Ok(())
 }
 
-/// The geometry that a tree is (RFC 7946 §3.1), with at most so many positions.
+/// The geometry that a tree is, of any of the seven kinds of RFC 7946 §3.1, with at most `most` positions.
+///
+/// Coordinates are rounded to the grid, ties away from zero. A position is a list of at least two numbers, longitude and
+/// latitude first; what stands behind them has to be numbers and isn't kept. Of a `GeometryCollection` only
+/// `geometries` is read, and it may be empty where a position stands elsewhere. The fault is the first that holds of
+/// the whole tree, in the order of `GeomFault`; memory may run out at any place.
 pub fn geom_of_json(alloc: Global, tree: &Json, most: u32) -> Result<Geom, GeomFault>
     ensures { Answers tree.now most result }
 {

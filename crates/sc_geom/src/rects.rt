@@ -7,9 +7,11 @@ use crate::place::{latitude, longitude};
 use sc_decimal::Dec;
 
 const EAST_END: i64 = 1_800_000_000;
+
 const WEST_END: i64 = -1_800_000_000;
 
-/// One box, or two where it crosses the antimeridian: from its west to 180 degrees, and from -180 degrees to its east.
+/// What a bounding box covers: one box, or two where it crosses the antimeridian, from its west to 180 degrees and from
+/// -180 degrees to its east.
 #[derive(Clone, Copy, Debug, PartialEq, Eq)]
 pub struct Rects {
     pub first: GridBox,

@@ -22,7 +22,8 @@ pub(crate) fn list_of(tree: &Json) -> Option<&[Json]>
 /// The elements of a list that isn't empty.
 #[tactic(auto, unfolding(crate::specs::Drawn::elements_of))]
 pub(crate) fn elements_of(tree: &Json) -> Option<&[Json]>
-    ensures elements { MatchOption result (elements_of tree.now ≡ None) (λ elements. elements_of tree.now ≡ Some elements.now) }
+    ensures elements { MatchOption result (elements_of tree.now ≡ None)
+        (λ elements. elements_of tree.now ≡ Some elements.now) }
     ensures some { IfSome result (λ elements. 0 < length elements.now) }
 {
     match list_of(tree) {
@@ -68,7 +69,8 @@ pub(crate) fn index_named(members: &[Member], name: &[u8]) -> Option<usize>
 
 /// The value of the first member of a name.
 pub(crate) fn member_named<'a>(members: &'a [Member], name: &[u8]) -> Option<&'a Json>
-    ensures { MatchOption result (member_named name.now members.now ≡ None) (λ value. member_named name.now members.now ≡ Some value.now) }
+    ensures { MatchOption result (member_named name.now members.now ≡ None)
+        (λ value. member_named name.now members.now ≡ Some value.now) }
 {
     match index_named(members, name) {
         Some(at) => Some(&members[at].value),

@@ -11,6 +11,7 @@ returns-in-None c =
     (λ h. absurd cc, λ (h : IsSome (all_read number_of c.args.trees.now)). rw none at h)
 
 pub loop-tree-preserved : goal.loop-tree-preserved
-loop-tree-preserved c =
-    (c.loop-tree.invariant.0 ++ c.in-Some.field-0.now ∷ [],
-     read_more number_of c.args.trees.now c.loop-tree.tree-index c.tree-item.result c.loop-tree.invariant.0 c.in-Some.field-0.now c.loop-tree-test.true c.tree-item.is c.loop-tree.invariant.1 c.in-Some.ensures)
+loop-tree-preserved c = (
+  c.loop-tree.invariant.0 ++ c.in-Some.field-0.now ∷ [],
+  read_more number_of c.args.trees.now c.loop-tree.tree-index c.tree-item.result c.loop-tree.invariant.0 c.in-Some.field-0.now c.loop-tree-test.true c.tree-item.is c.loop-tree.invariant.1 c.in-Some.ensures,
+)

@@ -11,13 +11,13 @@ pub over_lists-extent-requires : goal.over_lists-extent-requires
 over_lists-extent-requires c =
     let g = c.args.geom.now in
     subst (λ (l : List (List Pt)). All IsInWorld (joined l)) (sym c.lines.ensures.lines)
-      (all_back IsInWorld g.points (joined g.lines) (all_front IsInWorld (g.points ++ joined g.lines) (joined (joined g.areas)) c.lines.ensures.kept.in_world))
+    (all_back IsInWorld g.points (joined g.lines) (all_front IsInWorld (g.points ++ joined g.lines) (joined (joined g.areas)) c.lines.ensures.kept.in_world))
 
 pub over_areas-requires : goal.over_areas-requires
 over_areas-requires c =
     let g = c.args.geom.now in
     subst (λ (l : List (List (List Pt))). All IsInWorld (joined (joined l))) (sym c.areas.ensures.areas)
-      (all_back IsInWorld (g.points ++ joined g.lines) (joined (joined g.areas)) c.areas.ensures.kept.in_world)
+    (all_back IsInWorld (g.points ++ joined g.lines) (joined (joined g.areas)) c.areas.ensures.kept.in_world)
 
 pub unreachable-requires : goal.unreachable-requires
 unreachable-requires c =

@@ -12,14 +12,15 @@ new-requires-in-Some c = record {
   south_in = (omega (arith, ints, clamps), omega (arith, ints, clamps));
   north_in = (omega (arith, ints, clamps), omega (arith, ints, clamps));
   across = omega (arith, ints, clamps);
-  up = omega (arith, ints, clamps) }
+  up = omega (arith, ints, clamps);
+}
 
 pub returns-in-None : goal.returns-in-None
 returns-in-None c = λ before is.
     let empty : before ≡ [] = subst (λ b. Encloses b before) c.in-None.is is in
     let first : IsSmallest c.new.result (c.args.point ∷ []) = smallest_first c.args.point c.new.result
-      (omega (arith, ints, ap (λ (r : Rectangle). r.west) c.new.ensures)) (omega (arith, ints, ap (λ (r : Rectangle). r.south) c.new.ensures))
-      (omega (arith, ints, ap (λ (r : Rectangle). r.east) c.new.ensures)) (omega (arith, ints, ap (λ (r : Rectangle). r.north) c.new.ensures)) in
+    (omega (arith, ints, ap (λ (r : Rectangle). r.west) c.new.ensures)) (omega (arith, ints, ap (λ (r : Rectangle). r.south) c.new.ensures))
+    (omega (arith, ints, ap (λ (r : Rectangle). r.east) c.new.ensures)) (omega (arith, ints, ap (λ (r : Rectangle). r.north) c.new.ensures)) in
     rw empty first
 
 pub returns-in-Some : goal.returns-in-Some

@@ -30,9 +30,9 @@ add_collection-returns-in-List t c = λ tree s m k is.
     let at : index_named geometries_name c.args.members.now ≡ Some c.in-Some.at = ap (λ (n : List ℕ). index_named n c.args.members.now) (sym c.geometries_name.ensures) ∙ sym c.in-Some.ensures in
     let member = get_or c.args.members.now c.in-Some.at c.index-members-at.result in
     collected_result c.add_geometries.result tree c.args.members.now (out-Member member).value c.as_slice.result.now s c.add_geometries.new.draft m k
-      (named_at geometries_name c.args.members.now c.in-Some.at member at (ap (λ (d : Member). get_or c.args.members.now c.in-Some.at d) c.index-members-at.is))
-      (ap list_of c.in-List.is ∙ list_of-list c.in-List.geometries ∙ ap Some (sym c.as_slice.ensures))
-      (c.add_geometries.ensures s is)
+    (named_at geometries_name c.args.members.now c.in-Some.at member at (ap (λ (d : Member). get_or c.args.members.now c.in-Some.at d) c.index-members-at.is))
+    (ap list_of c.in-List.is ∙ list_of-list c.in-List.geometries ∙ ap Some (sym c.as_slice.ensures))
+    (c.add_geometries.ensures s is)
 
 pub add_collection-returns-in_default : goal.add_collection-returns-in_default
 unfolding list_of
@@ -41,7 +41,7 @@ add_collection-returns-in_default t c = λ tree s m k is u d.
     let member = get_or c.args.members.now c.in-Some.at c.index-members-at.result in
     let none : list_of (out-Member member).value ≡ None = search rules in
     none_listed tree c.args.members.now (out-Member member).value m k
-      (named_at geometries_name c.args.members.now c.in-Some.at member at (ap (λ (d : Member). get_or c.args.members.now c.in-Some.at d) c.index-members-at.is)) none u d
+    (named_at geometries_name c.args.members.now c.in-Some.at member at (ap (λ (d : Member). get_or c.args.members.now c.in-Some.at d) c.index-members-at.is)) none u d
 
 pub add_collection-returns-in-None : goal.add_collection-returns-in-None
 add_collection-returns-in-None t c = λ tree s m k is.
@@ -68,7 +68,8 @@ add_geometries-loop-tree-preserved t c = λ s is.
     let before = c.loop-tree.invariant s is in
     let one = c.in_ok-add_geometry.ensures (beside s before.0) before.2 in
     let grown : take (c.loop-tree.tree-index + 1) c.args.trees.now ≡ take c.loop-tree.tree-index c.args.trees.now ++ c.tree-item.result ∷ [] =
-      take_more c.args.trees.now c.loop-tree.tree-index c.tree-item.result c.loop-tree-test.true ∙ ap (λ (x : Json). take c.loop-tree.tree-index c.args.trees.now ++ x ∷ []) (sym c.tree-item.is) in
-    (beside before.0 one.0,
-     subst (λ (l : List Json). AllDepict l (beside before.0 one.0)) (sym grown) (AllDepict-push (take c.loop-tree.tree-index c.args.trees.now) before.0 c.tree-item.result one.0 before.1 one.1),
-     subst (IsDraft c.add_geometry.new.draft) (beside_assoc s before.0 one.0) one.2)
+    take_more c.args.trees.now c.loop-tree.tree-index c.tree-item.result c.loop-tree-test.true ∙ ap (λ (x : Json). take c.loop-tree.tree-index c.args.trees.now ++ x ∷ []) (sym c.tree-item.is) in (
+      beside before.0 one.0,
+      subst (λ (l : List Json). AllDepict l (beside before.0 one.0)) (sym grown) (AllDepict-push (take c.loop-tree.tree-index c.args.trees.now) before.0 c.tree-item.result one.0 before.1 one.1),
+      subst (IsDraft c.add_geometry.new.draft) (beside_assoc s before.0 one.0) one.2,
+    )
