@@ -33,7 +33,11 @@ fn hold(rt: &HostRuntime, bytes: &[u8]) -> anyhow::Result<()> {
 }
 
 /// Reads the text and writes it back; gives how long each took, and whether the written text is the text.
-fn again(rt: &HostRuntime, alloc: Global, line: &[u8]) -> anyhow::Result<(Duration, Duration, bool)> {
+fn again(
+    rt: &HostRuntime,
+    alloc: Global,
+    line: &[u8],
+) -> anyhow::Result<(Duration, Duration, bool)> {
     let start = Instant::now(rt)?;
     let read = read_json(alloc, line);
     let reading = start.elapsed(rt)?;

@@ -160,7 +160,7 @@ awaits_went (member_value o a l q r w name depth ys aw b wl quoted wr blank) =
     let p : ℕ = n + 1 + length a in
     let names : Leads (l ++ q ++ r) p c.state (at inner Colon) = name_leads l q r name wl quoted wr k ys c.state c.begins p in
     let value : Leads (l ++ q ++ r ++ 58 ∷ w) p c.state (at inner Value) = leads_on names (58 ∷ w) (p + length (l ++ q ++ r)) (at inner Value) refl
-        (steps 58 w (p + length (l ++ q ++ r)) (at inner Colon) (at inner Value) (at inner Value) (colon_goes inner (p + length (l ++ q ++ r))) (blanks_lead (at inner Value) (value_rests inner) w blank (p + length (l ++ q ++ r) + 1))) in
+    (steps 58 w (p + length (l ++ q ++ r)) (at inner Colon) (at inner Value) (at inner Value) (colon_goes inner (p + length (l ++ q ++ r))) (blanks_lead (at inner Value) (value_rests inner) w blank (p + length (l ++ q ++ r) + 1))) in
     record {
       stack = inner;
       state = at inner Value;

@@ -101,10 +101,10 @@ four_on e a b c d w x y z code ha hb hc hd is small rest f =
       | inl low ↦ record { rest = rest; whole = unit_here (e ++ rest) a b c d code hex (inl low) f }
       | inr from ↦ elim (cases_lt code 56320) [
         | inl to ↦
-          let n : List ℕ = 92 ∷ 117 ∷ a ∷ b ∷ c ∷ d ∷ [] in
-          let high : IsHigh code n = record { a = a; b = b; c = c; d = d; hex = hex; from_high = from; to_high = to; is = refl } in
-          let more : List ℕ = 92 ∷ 117 ∷ 68 ∷ 67 ∷ 48 ∷ 48 ∷ [] in
-          record { rest = rest ++ more; whole = pair_here (e ++ (rest ++ more)) n code high 68 67 48 48 56320 first_low (omega arith) (omega arith) (sym (append_assoc e rest more) ∙ ap (λ (x : List ℕ). x ++ more) f) }
+            let n : List ℕ = 92 ∷ 117 ∷ a ∷ b ∷ c ∷ d ∷ [] in
+            let high : IsHigh code n = record { a = a; b = b; c = c; d = d; hex = hex; from_high = from; to_high = to; is = refl } in
+            let more : List ℕ = 92 ∷ 117 ∷ 68 ∷ 67 ∷ 48 ∷ 48 ∷ [] in
+            record { rest = rest ++ more; whole = pair_here (e ++ (rest ++ more)) n code high 68 67 48 48 56320 first_low (omega arith) (omega arith) (sym (append_assoc e rest more) ∙ ap (λ (x : List ℕ). x ++ more) f) }
         | inr past ↦ record { rest = rest; whole = unit_here (e ++ rest) a b c d code hex (inr (beyond w x y z code is xs ys zs small past)) f }
       ]
     ]

@@ -132,9 +132,9 @@ deep_fault : (bytes x rest : List ℕ) (b : ℕ) (t : State) (k : List Frame) (l
 deep_fault bytes x rest b t k l is clean aw h = elim (cases_lt 64 (length k)) [
   | inr few ↦ subst (λ (m : Limit). HasFault bytes (limit_fault m)) (sym h.is) (record { before = x; bracket = b; rest = rest; is = is; place = refl; awaits = subst (λ (d : ℕ). Awaits x d) (let le = h.many in omega (arith, few, le)) aw; opens = h.opens })
   | inl more ↦
-    let e = earlier_deep aw more (b ∷ rest) in
-    let opens : OpensTooDeep bytes e.place = subst (λ (y : List ℕ). OpensTooDeep y e.place) (sym is) e.opens in
-    absurd (early (deep_hit bytes e.place opens) (deep_hit_at bytes e.place opens) e.early)
+      let e = earlier_deep aw more (b ∷ rest) in
+      let opens : OpensTooDeep bytes e.place = subst (λ (y : List ℕ). OpensTooDeep y e.place) (sym is) e.opens in
+      absurd (early (deep_hit bytes e.place opens) (deep_hit_at bytes e.place opens) e.early)
 ]
   where
     early : {place : ℕ} → (hit : Hit bytes (deep place)) → length hit.x ≡ place → place < length x → ⊥
@@ -308,17 +308,17 @@ no_longer o ds number tail rest depth k part aw leads is filled behind ends more
     let some : length (number ++ more) ≡ length (head.byte ∷ head.more) = ap length head.is in
     elim (overlap (number ++ more) others ds rest text) [
       | past y f g ↦
-        let d = leads_cut (number ++ more) y n w.state t (subst (λ (x : List ℕ). Leads x n w.state t) f ran) in
-        let here : d.state ≡ u = leads_one d.leads z.leads in
-        let le : length tail ≤ 0 + length y = behind_run d.goes_on w.stack z.part part (number ++ more) ds n here refl (omega (arith, some)) 0 (length tail) (whole_behind z.part z.is) behind in
-        let long : length ds ≡ length number + length tail = ap length is ∙ length-append number tail in
-        let long' : length ds ≡ length (number ++ more) + length y = ap length f ∙ length-append (number ++ more) y in
-        let long'' = length-append number more in
-        nothing_more more (omega (arith, le, long, long', long''))
+          let d = leads_cut (number ++ more) y n w.state t (subst (λ (x : List ℕ). Leads x n w.state t) f ran) in
+          let here : d.state ≡ u = leads_one d.leads z.leads in
+          let le : length tail ≤ 0 + length y = behind_run d.goes_on w.stack z.part part (number ++ more) ds n here refl (omega (arith, some)) 0 (length tail) (whole_behind z.part z.is) behind in
+          let long : length ds ≡ length number + length tail = ap length is ∙ length-append number tail in
+          let long' : length ds ≡ length (number ++ more) + length y = ap length f ∙ length-append (number ++ more) y in
+          let long'' = length-append number more in
+          nothing_more more (omega (arith, le, long, long', long''))
       | within b y f g ↦
-        let d = leads_cut ds (b ∷ y) n w.state u (subst (λ (x : List ℕ). Leads x n w.state u) f z.leads) in
-        let here : d.state ≡ t = leads_one d.leads ran in
-        absurd (stops b y d.state u here d.goes_on refl (subst (λ (x : List ℕ). NoMore part x) g ends) filled)
+          let d = leads_cut ds (b ∷ y) n w.state u (subst (λ (x : List ℕ). Leads x n w.state u) f z.leads) in
+          let here : d.state ≡ t = leads_one d.leads ran in
+          absurd (stops b y d.state u here d.goes_on refl (subst (λ (x : List ℕ). NoMore part x) g ends) filled)
     ]
   where
     stops : (b : ℕ) (y : List ℕ) (s u : State) → s ≡ at k (Number part ds (length o)) → Leads (b ∷ y) (length o + length ds) s u → from_of u.mode ≡ Some (length o) → next_part part b ≡ None → 0 < length ds → ⊥

@@ -84,12 +84,29 @@ pub data Outcome (bs : List ℕ) (n : ℕ) (s : State) (r : Result Json JsonFaul
 
 longer : (b : ℕ) (bs : List ℕ) (n : ℕ) (s t : State) (r : Result Json JsonFault) → (step_of s n b).next ≡ Some t → (step_of s n b).breaks ≡ None → Outcome bs (n + 1) t r → Outcome (b ∷ bs) n s r
 longer b bs n s t r e f (broken o) =
-    broken (record { x = b ∷ o.x; rest = o.rest; state = o.state; limit = o.limit; is = ap (λ (y : List ℕ). b ∷ y) o.is; clean = moves b o.x n s t o.state e f o.clean;
-      breaks = subst (λ (i : ℕ). BreaksAt o.rest i o.state o.limit) (omega arith) o.breaks; result = o.result })
+    broken (record {
+      x = b ∷ o.x;
+      rest = o.rest;
+      state = o.state;
+      limit = o.limit;
+      is = ap (λ (y : List ℕ). b ∷ y) o.is;
+      clean = moves b o.x n s t o.state e f o.clean;
+      breaks = subst (λ (i : ℕ). BreaksAt o.rest i o.state o.limit) (omega arith) o.breaks;
+      result = o.result;
+    })
 longer b bs n s t r e f (refuses o) =
     let same : n + 1 + length o.x ≡ n + length (b ∷ o.x) = omega arith in
-    refuses (record { x = b ∷ o.x; byte = o.byte; rest = o.rest; state = o.state; is = ap (λ (y : List ℕ). b ∷ y) o.is; clean = moves b o.x n s t o.state e f o.clean;
-      stops = subst (λ (i : ℕ). (step_of o.state i o.byte).next ≡ None) same o.stops; keeps = subst (λ (i : ℕ). (step_of o.state i o.byte).breaks ≡ None) same o.keeps; result = subst (λ (i : ℕ). r ≡ Err (Syntax i)) same o.result })
+    refuses (record {
+      x = b ∷ o.x;
+      byte = o.byte;
+      rest = o.rest;
+      state = o.state;
+      is = ap (λ (y : List ℕ). b ∷ y) o.is;
+      clean = moves b o.x n s t o.state e f o.clean;
+      stops = subst (λ (i : ℕ). (step_of o.state i o.byte).next ≡ None) same o.stops;
+      keeps = subst (λ (i : ℕ). (step_of o.state i o.byte).breaks ≡ None) same o.keeps;
+      result = subst (λ (i : ℕ). r ≡ Err (Syntax i)) same o.result;
+    })
 longer b bs n s t r e f (short o) =
     let same : n + 1 + length bs ≡ n + length (b ∷ bs) = omega arith in
     short (record { state = o.state; clean = moves b bs n s t o.state e f o.clean; stops = o.stops; keeps = o.keeps; result = subst (λ (i : ℕ). r ≡ Err (Syntax i)) same o.result })
@@ -384,21 +401,21 @@ clean_cut (d ∷ y) b z n s t u (moves _ _ _ _ s' _ e f c) (steps _ _ _ _ s'' _ 
 pub ahead : (bytes x rest : List ℕ) (t : State) (l : Limit) → bytes ≡ x ++ rest → Clean x 0 start t → (h : Hit bytes l) → Ahead x rest t l (length h.x)
 ahead bytes x rest t l is clean h = elim (overlap x rest h.x h.rest (sym is ∙ h.is)) [
   | past z f g ↦
-    let r = leads_cut x z 0 start h.state (subst (λ (w : List ℕ). Leads w 0 start h.state) f h.leads) in
-    let same : r.state ≡ t = leads_one r.leads (clean_leads clean) in
-    record {
-      z = z;
-      others = h.rest;
-      state = h.state;
-      is = g;
-      leads = subst (λ (w : State). Leads z (length x) w h.state) same (subst (λ (i : ℕ). Leads z i r.state h.state) (omega arith) r.goes_on);
-      breaks = subst (λ (i : ℕ). BreaksAt h.rest i h.state l) (ap length f ∙ length-append x z) h.breaks;
-      met_at = ap length f ∙ length-append x z;
-    }
+      let r = leads_cut x z 0 start h.state (subst (λ (w : List ℕ). Leads w 0 start h.state) f h.leads) in
+      let same : r.state ≡ t = leads_one r.leads (clean_leads clean) in
+      record {
+        z = z;
+        others = h.rest;
+        state = h.state;
+        is = g;
+        leads = subst (λ (w : State). Leads z (length x) w h.state) same (subst (λ (i : ℕ). Leads z i r.state h.state) (omega arith) r.goes_on);
+        breaks = subst (λ (i : ℕ). BreaksAt h.rest i h.state l) (ap length f ∙ length-append x z) h.breaks;
+        met_at = ap length f ∙ length-append x z;
+      }
   | within b z f g ↦
-    let none = subst (λ (i : ℕ). (step_of h.state i b).breaks ≡ None) (omega arith) (clean_cut h.x b z 0 start t h.state (subst (λ (w : List ℕ). Clean w 0 start t) f clean) h.leads) in
-    let some : BreaksAt (b ∷ (z ++ rest)) (length h.x) h.state l = subst (λ (w : List ℕ). BreaksAt w (length h.x) h.state l) g h.breaks in
-    absurd (differ (step_of h.state (length h.x) b).breaks l none some)
+      let none = subst (λ (i : ℕ). (step_of h.state i b).breaks ≡ None) (omega arith) (clean_cut h.x b z 0 start t h.state (subst (λ (w : List ℕ). Clean w 0 start t) f clean) h.leads) in
+      let some : BreaksAt (b ∷ (z ++ rest)) (length h.x) h.state l = subst (λ (w : List ℕ). BreaksAt w (length h.x) h.state l) g h.breaks in
+      absurd (differ (step_of h.state (length h.x) b).breaks l none some)
 ]
   where
     differ : (o : Option Limit) (l : Limit) → o ≡ None → o ≡ Some l → ⊥

@@ -44,14 +44,35 @@ lettered b k v e is names low = record { v = v; is = ap letter_of e ∙ is; name
 
 letter_case : (b : ℕ) → HasLetter b ⊎ HasNone b
 letter_case b =
-    elim (is_it b 34) [ inl e ↦ inl (lettered b 34 34 e refl grammar.quote (omega arith)) | inr n1 ↦
-    elim (is_it b 92) [ inl e ↦ inl (lettered b 92 92 e refl grammar.backslash (omega arith)) | inr n2 ↦
-    elim (is_it b 8) [ inl e ↦ inl (lettered b 8 98 e refl grammar.b (omega arith)) | inr n3 ↦
-    elim (is_it b 9) [ inl e ↦ inl (lettered b 9 116 e refl grammar.t (omega arith)) | inr n4 ↦
-    elim (is_it b 10) [ inl e ↦ inl (lettered b 10 110 e refl grammar.n (omega arith)) | inr n5 ↦
-    elim (is_it b 12) [ inl e ↦ inl (lettered b 12 102 e refl grammar.f (omega arith)) | inr n6 ↦
-    elim (is_it b 13) [ inl e ↦ inl (lettered b 13 114 e refl grammar.r (omega arith)) | inr n7 ↦
-    inr (record { is = rw (n1, n2, n3, n4, n5, n6, n7) refl; no_quote = n1; no_slash = n2 }) ] ] ] ] ] ] ]
+    elim (is_it b 34) [
+      | inl e ↦ inl (lettered b 34 34 e refl grammar.quote (omega arith))
+      | inr n1 ↦
+          elim (is_it b 92) [
+            | inl e ↦ inl (lettered b 92 92 e refl grammar.backslash (omega arith))
+            | inr n2 ↦
+                elim (is_it b 8) [
+                  | inl e ↦ inl (lettered b 8 98 e refl grammar.b (omega arith))
+                  | inr n3 ↦
+                      elim (is_it b 9) [
+                        | inl e ↦ inl (lettered b 9 116 e refl grammar.t (omega arith))
+                        | inr n4 ↦
+                            elim (is_it b 10) [
+                              | inl e ↦ inl (lettered b 10 110 e refl grammar.n (omega arith))
+                              | inr n5 ↦
+                                  elim (is_it b 12) [
+                                    | inl e ↦ inl (lettered b 12 102 e refl grammar.f (omega arith))
+                                    | inr n6 ↦
+                                        elim (is_it b 13) [
+                                          | inl e ↦ inl (lettered b 13 114 e refl grammar.r (omega arith))
+                                          | inr n7 ↦
+                                              inr (record { is = rw (n1, n2, n3, n4, n5, n6, n7) refl; no_quote = n1; no_slash = n2 })
+                                        ]
+                                  ]
+                            ]
+                      ]
+                ]
+          ]
+    ]
 
 -- four digits of a control character
 decimal_digit : (d : ℕ) → d < 10 → hex_of (48 + d) ≡ Some d

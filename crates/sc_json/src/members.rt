@@ -21,7 +21,6 @@ pub struct Members {
 impl Model for Members {
     ghost use Rattle.std.specs.Prelude.{List};
     ghost use Rattle.sc_json.specs.declared.tree.Member.{Member};
-
     ghost use Rattle.sc_json.specs.contracts.tree.Json as e;
     ghost use Rattle.std.specs.Coded.{codes};
 
@@ -69,7 +68,10 @@ impl Members {
     pub fn into_seq(self) -> Seq<Member>
         ensures { result ≡ self }
     {
-        let Members { items, names: _names } = self;
+        let Members {
+            items,
+            names: _names,
+        } = self;
         Seq::of(items)
     }
 }

@@ -3,8 +3,8 @@ ghost use Rattle.sc_json.specs.Machine as m;
 ghost use Rattle.sc_json.specs.Faults.{Answers};
 
 use crate::fault::{JsonFault, StepFault};
-use crate::state::{Mode, State};
 use crate::runs::run;
+use crate::state::{Mode, State};
 use crate::step::{finish, step};
 use crate::tree::Json;
 use sc_base::Stack;

@@ -22,12 +22,7 @@ pub(crate) fn is_blank(byte: u8) -> bool
 }
 
 /// A list or an object begins.
-fn nest(
-    stack: &mut Stack<Frame>,
-    frame: Frame,
-    mode: Mode,
-    place: u64,
-) -> Result<Mode, StepFault>
+fn nest(stack: &mut Stack<Frame>, frame: Frame, mode: Mode, place: u64) -> Result<Mode, StepFault>
     ensures { m.Turns result stack.new (m.nested stack.old frame mode place) }
 {
     if stack.len() >= 64 {
@@ -61,12 +56,7 @@ fn number(alloc: Global, part: Part, byte: u8, place: u64) -> Result<Mode, StepF
 }
 
 /// The first byte of a number or a word.
-fn scalar(
-    alloc: Global,
-    stack: &mut Stack<Frame>,
-    place: u64,
-    byte: u8,
-) -> Result<Mode, StepFault>
+fn scalar(alloc: Global, stack: &mut Stack<Frame>, place: u64, byte: u8) -> Result<Mode, StepFault>
     ensures { m.Turns result stack.new (m.plain (m.scalar_of stack.old place byte)) }
 {
     if byte == b'-' {
@@ -91,12 +81,7 @@ fn scalar(
 }
 
 /// White space, or the first byte of a value.
-fn begin(
-    alloc: Global,
-    stack: &mut Stack<Frame>,
-    place: u64,
-    byte: u8,
-) -> Result<Mode, StepFault>
+fn begin(alloc: Global, stack: &mut Stack<Frame>, place: u64, byte: u8) -> Result<Mode, StepFault>
     ensures { m.Turns result stack.new (m.begin_of stack.old place byte) }
 {
     if is_blank(byte) {
@@ -134,12 +119,7 @@ fn close_object(stack: &mut Stack<Frame>) -> Result<Mode, StepFault>
     }
 }
 
-fn first(
-    alloc: Global,
-    stack: &mut Stack<Frame>,
-    place: u64,
-    byte: u8,
-) -> Result<Mode, StepFault>
+fn first(alloc: Global, stack: &mut Stack<Frame>, place: u64, byte: u8) -> Result<Mode, StepFault>
     ensures { m.Turns result stack.new (m.first_of stack.old place byte) }
 {
     if is_blank(byte) {
@@ -151,12 +131,7 @@ fn first(
     begin(alloc, stack, place, byte)
 }
 
-fn name(
-    alloc: Global,
-    stack: &mut Stack<Frame>,
-    place: u64,
-    byte: u8,
-) -> Result<Mode, StepFault>
+fn name(alloc: Global, stack: &mut Stack<Frame>, place: u64, byte: u8) -> Result<Mode, StepFault>
     ensures { m.Turns result stack.new (m.plain (m.name_of stack.old place byte)) }
 {
     if is_blank(byte) {
@@ -239,12 +214,7 @@ fn after_member(
     Err(StepFault::Refused)
 }
 
-fn after(
-    alloc: Global,
-    stack: &mut Stack<Frame>,
-    value: Json,
-    byte: u8,
-) -> Result<Mode, StepFault>
+fn after(alloc: Global, stack: &mut Stack<Frame>, value: Json, byte: u8) -> Result<Mode, StepFault>
     ensures { m.Turns result stack.new (m.plain (m.after_of stack.old value byte)) }
 {
     if is_blank(byte) {
@@ -453,6 +423,7 @@ fn in_quotes(
     grown(stack, is_name, piece, bytes, from, byte)
 }
 
+/// One more byte behind a number, a text or a value, which goes on or is put where it belongs.
 fn turn(
     alloc: Global,
     stack: &mut Stack<Frame>,
@@ -484,18 +455,20 @@ fn turn(
     }
 }
 
-/// One more byte.
+/// One more byte. Modes that hold nothing aren't moved.
 #[tactic(auto, unfolding(crate::specs::Machine::step_of))]
-pub(crate) fn step(
-    alloc: Global,
-    state: &mut State,
-    place: u64,
-    byte: u8,
-) -> Result<(), StepFault>
+pub(crate) fn step(alloc: Global, state: &mut State, place: u64, byte: u8) -> Result<(), StepFault>
     ensures { m.Steps result state.new (m.step_of state.old place byte) }
 {
-    let mode = mem::replace(&mut state.mode, Mode::Value);
-    state.mode = turn(alloc, &mut state.stack, mode, place, byte)?;
+    match state.mode {
+        Mode::Value => state.mode = begin(alloc, &mut state.stack, place, byte)?,
+        Mode::Name => state.mode = name(alloc, &mut state.stack, place, byte)?,
+        Mode::Colon => state.mode = colon(&mut state.stack, byte)?,
+        _ => {
+            let mode = mem::replace(&mut state.mode, Mode::Value);
+            state.mode = turn(alloc, &mut state.stack, mode, place, byte)?;
+        }
+    }
     Ok(())
 }
 

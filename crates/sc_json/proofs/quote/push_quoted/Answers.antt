@@ -10,14 +10,16 @@ pub texts-preserved : goal.texts-preserved
 texts-preserved c =
     let rest : List ℕ = c.texts.rest.now in let n : ℕ = c.plain_len-plain.result in
     let mid : string_bytes c.push_str.new.self ≡ string_bytes c.texts.out ++ take n rest =
-      c.in_ok-push_str.ensures.bytes ∙ ap (λ (x : List ℕ). string_bytes c.texts.out ++ x) (c.range.ensures.value ∙ front_range rest n) in
+    c.in_ok-push_str.ensures.bytes ∙ ap (λ (x : List ℕ). string_bytes c.texts.out ++ x) (c.range.ensures.value ∙ front_range rest n) in
     let new : string_bytes c.push_escape.new.out ≡ string_bytes c.push_str.new.self ++ escaped (get_or rest n 0) =
-      subst (λ (x : List ℕ). string_bytes c.push_escape.new.out ≡ string_bytes c.push_str.new.self ++ escaped (get_or x n 0)) c.as_bytes-in-texts.ensures.value c.in_ok-push_escape.ensures in
+    subst (λ (x : List ℕ). string_bytes c.push_escape.new.out ≡ string_bytes c.push_str.new.self ++ escaped (get_or x n 0)) c.as_bytes-in-texts.ensures.value c.in_ok-push_escape.ensures in
     let within : n ≤ length rest = subst (λ (x : List ℕ). n ≤ length x) c.as_bytes.ensures.value c.plain_len-plain.ensures.within in
     let lt : n < length rest = omega arith in
     let all : list_all is_plain_byte (take n rest) ≡ true = subst (λ (x : List ℕ). list_all is_plain_byte (take n x) ≡ true) c.as_bytes.ensures.value c.plain_len-plain.ensures.plain in
-    record { utf8 = c.range_from-rest.utf8;
-      same = ap (λ (x : List ℕ). string_bytes c.push_escape.new.out ++ flat_map escaped x) c.range_from-rest.ensures.value ∙ text_goes_on (string_bytes c.texts.out) (string_bytes c.push_str.new.self) (string_bytes c.push_escape.new.out) _ rest n mid new lt all c.texts.invariant.same }
+    record {
+      utf8 = c.range_from-rest.utf8;
+      same = ap (λ (x : List ℕ). string_bytes c.push_escape.new.out ++ flat_map escaped x) c.range_from-rest.ensures.value ∙ text_goes_on (string_bytes c.texts.out) (string_bytes c.push_str.new.self) (string_bytes c.push_escape.new.out) _ rest n mid new lt all c.texts.invariant.same;
+    }
 
 pub range_from-rest-requires : goal.range_from-rest-requires
 range_from-rest-requires c =
@@ -32,7 +34,7 @@ unfolding lib.Utf8.encode
 returns c =
     let rest : List ℕ = c.texts.rest.now in let n : ℕ = c.plain_len-plain.result in
     let mid : string_bytes c.push_str.new.self ≡ string_bytes c.texts.out ++ take n rest =
-      c.in_ok-push_str.ensures.bytes ∙ ap (λ (x : List ℕ). string_bytes c.texts.out ++ x) (c.range.ensures.value ∙ front_range rest n) in
+    c.in_ok-push_str.ensures.bytes ∙ ap (λ (x : List ℕ). string_bytes c.texts.out ++ x) (c.range.ensures.value ∙ front_range rest n) in
     let all : list_all is_plain_byte (take n rest) ≡ true = subst (λ (x : List ℕ). list_all is_plain_byte (take n x) ≡ true) c.as_bytes.ensures.value c.plain_len-plain.ensures.plain in
     text_ends (string_bytes c.args.out.now) (string_bytes c.push.new.self) (string_bytes c.texts.out) (string_bytes c.push_str.new.self) (string_bytes c.push-2.new.self) c.args.text.now rest n
     c.in_ok-push.ensures.bytes mid c.if-plain-rest.true all c.texts.invariant.same c.in_ok-push-2.ensures.bytes

@@ -9,7 +9,8 @@ use Rattle.sc_json.proofs.quote.push_quoted.Given as goal
 abbrev pub invariant-texts : goal.invariant-texts
 invariant-texts l = record {
   utf8 : shadow (Utf8 l.rest);
-  same : string_bytes l.out ++ flat_map escaped l.rest ≡ string_bytes l.initial.out ++ flat_map escaped l.fn.text }
+  same : string_bytes l.out ++ flat_map escaped l.rest ≡ string_bytes l.initial.out ++ flat_map escaped l.fn.text;
+}
 
 abbrev pub decreases-texts : goal.decreases-texts
 decreases-texts l = length l.rest

@@ -6,7 +6,8 @@ use Rattle.sc_json.proofs.reader.read_all.Given as goal
 abbrev pub invariant-reading : goal.invariant-reading
 invariant-reading l = record {
   within : l.at ≤ length l.bytes;
-  same : read_from (drop l.at l.bytes) l.at l.state ≡ read_of l.bytes }
+  same : read_from (drop l.at l.bytes) l.at l.state ≡ read_of l.bytes;
+}
 
 abbrev pub decreases-reading : goal.decreases-reading
 decreases-reading l = length l.bytes - l.at
