@@ -4,6 +4,7 @@
 //! line of answer. A kind that isn't known, and an input that isn't of its kind's outer shape, answers `skip`.
 #![tactic(auto)]
 
+mod item;
 mod json;
 mod numbers;
 
@@ -16,7 +17,9 @@ fn answer(alloc: Global, kind: &[u8], input: &[u8]) -> Result<Option<String>, Al
     match kind {
         b"dec" => Ok(Some(numbers::dec(alloc, input)?)),
         b"dec-order" => numbers::dec_order(alloc, input),
+        b"item" => item::item(alloc, input),
         b"json" => Ok(Some(json::json(alloc, input)?)),
+        b"merge-patch" => item::patch(alloc, input),
         _ => Ok(None),
     }
 }

@@ -35,7 +35,7 @@ fn push_more(text: &mut String, items: &[Item]) -> Result<(), AllocError>
 {
     for item in items {
         text.push(',')?;
-        text.push_str(item.doc.as_str())?;
+        text.push_str(item.doc().as_str())?;
     }
     Ok(())
 }
@@ -47,7 +47,7 @@ fn push_documents(text: &mut String, items: &[Item]) -> Result<(), AllocError>
     let Some((first, rest)) = items.split_first() else {
         return Ok(());
     };
-    text.push_str(first.doc.as_str())?;
+    text.push_str(first.doc().as_str())?;
     push_more(text, rest)?;
     Ok(())
 }
