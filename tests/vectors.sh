@@ -1,5 +1,5 @@
 #!/usr/bin/env bash
-# Runs the built program over the stored cases.
+# Runs the built programs over the stored cases: whole runs of `stacd`, and single questions to `probe`.
 set -e
 cd "$(dirname "${BASH_SOURCE[0]}")/.."
 if ! command -v python3 >/dev/null; then
@@ -7,4 +7,6 @@ if ! command -v python3 >/dev/null; then
     exit 0
 fi
 ./stacd page 1 </dev/null >/dev/null
-python3 tests/run.py crates/stacd/out/stacd tests/vectors/page-fixed
+python3 tests/runs.py crates/stacd/out/stacd tests/vectors/page-fixed
+(cd crates/probe && rt run >/dev/null)
+python3 tests/parts.py crates/probe/out/probe tests/vectors/*.txt

@@ -4,9 +4,11 @@
 //! line of answer. A kind that isn't known, and an input that isn't of its kind's outer shape, answers `skip`.
 #![tactic(auto)]
 
+mod geometries;
 mod item;
 mod json;
 mod numbers;
+mod times;
 
 use std::alloc::{AllocError, Global};
 use std::io;
@@ -20,6 +22,11 @@ fn answer(alloc: Global, kind: &[u8], input: &[u8]) -> Result<Option<String>, Al
         b"item" => item::item(alloc, input),
         b"json" => Ok(Some(json::json(alloc, input)?)),
         b"merge-patch" => item::patch(alloc, input),
+        b"instant" => Ok(Some(times::instant(alloc, input)?)),
+        b"date" => Ok(Some(times::date(alloc, input)?)),
+        b"range" => Ok(Some(times::range(alloc, input)?)),
+        b"geojson" => Ok(Some(geometries::geojson(alloc, input)?)),
+        b"bbox" => geometries::bbox(alloc, input),
         _ => Ok(None),
     }
 }

@@ -2,16 +2,11 @@ use sc_decimal::{Dec, NumFault};
 use std::alloc::{AllocError, Global};
 use std::cmp::Ordering;
 
-/// A number's digits and exponent.
+/// A number's canonical literal.
 pub fn literal(alloc: Global, number: &Dec) -> Result<String, AllocError> {
-    let sign = if number.neg() { "-" } else { "" };
-    let m = number.m();
-    let e = number.e();
-    if e == 0 {
-        format!(in alloc; "{sign}{m}")
-    } else {
-        format!(in alloc; "{sign}{m}E{e}")
-    }
+    let mut bytes = Vec::new(alloc);
+    number.push_literal(&mut bytes)?;
+    String::from_utf8_lossy(alloc, bytes.as_slice())
 }
 
 /// `dec`: a number's text, read and put on the grid.

@@ -1,5 +1,5 @@
 -- What a draft is after more points and one more line.
-use Rattle.std.proofs.Common.{◌≡◌, ℕ, ◌+◌, ◌≤◌, Bool, true, false, ◌||◌, List, [], ◌∷◌, ◌++◌, length, map, Option, Some, None, refl, ap, sym, subst, ◌∙◌, arith, length-append}
+use Rattle.std.proofs.Common.{◌≡◌, ◌+◌, ◌≤◌, Bool, true, false, ◌||◌, List, [], ◌∷◌, ◌++◌, length, map, Option, refl, ap, sym, subst, ◌∙◌, arith, length-append}
 use Rattle.std.specs.Prelude.{All, is_none}
 use Rattle.std.specs.List.{list_any}
 use Rattle.std.proofs.lemmas.List.{map-append, append-nil, length-map}
@@ -9,8 +9,8 @@ use Rattle.sc_geom.specs.declared.point.Pt.{Pt}
 use Rattle.sc_geom.specs.declared.path.Path.{Path}
 use Rattle.sc_geom.specs.declared.draft.Draft.{Draft}
 use Rattle.sc_geom.specs.Point.{IsInWorld}
-use Rattle.sc_geom.specs.Shapes.{Shapes, joined, rings_of, beside}
-use Rattle.sc_geom.specs.Sketch.{Sketch, has_open_ring}
+use Rattle.sc_geom.specs.Shapes.{joined, rings_of, beside}
+use Rattle.sc_geom.specs.Sketch.{Sketch}
 use Rattle.sc_geom.specs.Drawn.{points_only, lines_only}
 use Rattle.sc_geom.specs.Building.{settled, IsPath, IsDraft, any_outside}
 use Rattle.sc_geom.proofs.Lists.{joined-push}

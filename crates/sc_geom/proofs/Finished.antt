@@ -1,5 +1,5 @@
 -- A draft with no open ring and no position outside the world is a geometry.
-use Rattle.std.proofs.Common.{◌≡◌, ℕ, ◌+◌, ◌≤◌, ◌<◌, ℤ, Bool, true, false, ◌||◌, ◌&&◌, not, List, [], ◌∷◌, ◌++◌, length, map, Option, Some, None, refl, ap, sym, subst, ◌∙◌, arith, length-append, nat_lt}
+use Rattle.std.proofs.Common.{◌≡◌, ℕ, ◌+◌, ◌≤◌, Bool, true, false, ◌||◌, not, List, [], ◌∷◌, ◌++◌, length, map, Option, Some, None, refl, ap, sym, subst, ◌∙◌, arith, length-append, nat_lt}
 use Rattle.std.specs.Prelude.{All, is_none}
 use Rattle.std.specs.List.{list_any}
 use Rattle.std.specs.Ordering.{int_eq}
@@ -11,9 +11,9 @@ use Rattle.std.proofs.lemmas.List.Elements.{All-nil, All-cons, All-append}
 use Rattle.sc_geom.specs.declared.point.Pt.{Pt}
 use Rattle.sc_geom.specs.declared.draft.Draft.{Draft}
 use Rattle.sc_geom.specs.Point.{IsInWorld}
-use Rattle.sc_geom.specs.Shapes.{Shapes, joined, rings_of, positions_of, map_shapes, first_of, last_of, last_behind}
-use Rattle.sc_geom.specs.Geometry.{IsGeometry, IsRing}
-use Rattle.sc_geom.specs.Sketch.{Sketch, place_at, differ, is_same, is_open, has_open_ring, leaves_world}
+use Rattle.sc_geom.specs.Shapes.{Shapes, joined, rings_of, last_behind}
+use Rattle.sc_geom.specs.Geometry.{IsRing}
+use Rattle.sc_geom.specs.Sketch.{Sketch, differ, is_same, is_open, leaves_world}
 use Rattle.sc_geom.specs.Building.{settled, IsDraft, any_outside, Completes}
 use Rattle.sc_geom.specs.Answers.{count_of}
 use Rattle.sc_geom.proofs.Lists.{joined-append}

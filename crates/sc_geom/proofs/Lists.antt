@@ -1,7 +1,7 @@
 -- Lists: ends, lists joined, and lists that are read element by element.
-use Rattle.std.proofs.Common.{suc, zero, ◌≡◌, ℕ, ◌+◌, ◌<◌, List, [], ◌∷◌, ◌++◌, length, get_or, take, map, Option, Some, None, refl, ap, sym, ◌∙◌, append_assoc, arith}
+use Rattle.std.proofs.Common.{suc, zero, ◌≡◌, ℕ, ◌<◌, List, [], ◌∷◌, ◌++◌, length, get_or, Option, Some, None, refl, ap, sym, ◌∙◌, append_assoc, arith}
 use Rattle.std.proofs.lemmas.List.{append-nil}
-use Rattle.sc_geom.specs.Shapes.{joined, first_of, last_of, last_behind}
+use Rattle.sc_geom.specs.Shapes.{joined, last_of, last_behind}
 use Rattle.sc_geom.specs.Drawn.{both_read, all_read}
 
 last_behind-push : {A : Type 0} (y : A) (ys : List A) (x : A) → last_behind y (ys ++ x ∷ []) ≡ x

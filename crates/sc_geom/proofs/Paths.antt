@@ -10,7 +10,7 @@ use Rattle.sc_geom.specs.declared.point.Pt.{Pt}
 use Rattle.sc_geom.specs.declared.path.Path.{Path}
 use Rattle.sc_geom.specs.declared.area.Area.{Area}
 use Rattle.sc_geom.specs.Point.{IsInWorld}
-use Rattle.sc_geom.specs.Shapes.{joined, first_of, last_of}
+use Rattle.sc_geom.specs.Shapes.{joined, first_of}
 use Rattle.sc_geom.specs.Sketch.{place_at, is_open}
 use Rattle.sc_geom.specs.Building.{settled, IsPath, IsArea}
 use Rattle.sc_geom.proofs.Lists.{last_of-push, joined-push}

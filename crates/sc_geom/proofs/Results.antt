@@ -1,5 +1,5 @@
 -- What is known of a part says what is answered of the whole.
-use Rattle.std.proofs.Common.{◌≡◌, ℕ, ◌<◌, List, [], ◌∷◌, length, get_or, Option, Some, None, Result, Ok, Err, refl, ap, sym, subst, ◌∙◌}
+use Rattle.std.proofs.Common.{◌≡◌, ℕ, ◌<◌, List, length, get_or, Option, Some, None, Result, Ok, Err, refl, ap, sym, subst, ◌∙◌}
 use Rattle.std.specs.Prelude.{nat_eq}
 use Rattle.std.specs.Option.{option_map}
 use Rattle.std.specs.Cmp.Lexicographic.{pointwise}
@@ -14,13 +14,13 @@ use Rattle.sc_geom.specs.declared.kind.Kind.{Kind}
 use Rattle.sc_geom.specs.declared.kind.Kind.TheVariants.{GeometryCollection}
 use Rattle.sc_geom.specs.declared.fault.GeomFault.{GeomFault}
 use Rattle.sc_geom.specs.declared.fault.GeomFault.TheVariants.{BadShape, OpenRing, OutOfWorld, TooManyPositions, OutOfMemory}
-use Rattle.sc_geom.specs.Shapes.{Shapes, map_shapes}
+use Rattle.sc_geom.specs.Shapes.{Shapes}
 use Rattle.sc_geom.specs.Sketch.{Sketch}
 use Rattle.sc_geom.specs.Tree.{list_in, members_in, list_of, members_of, member_named, index_named}
 use Rattle.sc_geom.specs.Kinds.{coordinates_name, geometries_name}
 use Rattle.sc_geom.specs.Drawn.{drawn}
 use Rattle.sc_geom.specs.Depicts.{Depicts, AllDepict, by_coordinates, by_geometries, kind_in}
-use Rattle.sc_geom.specs.Building.{Adds, Depicted, AllDepicted, Finishes, IsDraft}
+use Rattle.sc_geom.specs.Building.{Adds, Depicted, AllDepicted, Finishes}
 use Rattle.sc_geom.specs.Answers.{Answers, IsFault, count_of}
 use Rattle.sc_geom.proofs.Members.{found_at, found_nowhere}
 use Rattle.sc_geom.proofs.Depicting.{one_sketch, none_drawn, collected, AllDepict-at}

@@ -1,5 +1,5 @@
 -- Four or six numbers are sides, and the rectangles of the sides are those of the numbers.
-use Rattle.std.proofs.Common.{◌≡◌, ℕ, List, [], ◌∷◌, length, get_or, Option, Some, None, refl, ap, sym, subst, ◌∙◌, arith}
+use Rattle.std.proofs.Common.{◌≡◌, List, [], ◌∷◌, length, get_or, Option, Some, None, refl, subst, arith}
 use Rattle.sc_decimal.specs.Number.{Number}
 use Rattle.sc_geom.specs.declared.rects.Rects.{Rects}
 use Rattle.sc_geom.specs.declared.rects.Sides.{Sides}

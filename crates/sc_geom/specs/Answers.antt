@@ -1,5 +1,5 @@
 -- The geometry that a tree is, and why a tree is none: the first fault that holds of the whole tree.
-use Rattle.std.specs.Prelude.{◌≡◌, ℕ, ◌≤◌, ◌<◌, true, false, length, Option, Some, Result, Ok, Err}
+use Rattle.std.specs.Prelude.{◌≡◌, ℕ, ◌≤◌, ◌<◌, true, false, length, Some, Result, Ok, Err}
 use Rattle.sc_json.specs.declared.tree.Json.{Json}
 use Rattle.sc_geom.specs.declared.point.Pt.{Pt}
 use Rattle.sc_geom.specs.declared.fault.GeomFault.{GeomFault}

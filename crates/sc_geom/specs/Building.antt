@@ -10,7 +10,7 @@ use Rattle.sc_geom.specs.declared.fault.GeomFault.{GeomFault}
 use Rattle.sc_geom.specs.declared.fault.GeomFault.TheVariants.{BadShape, OpenRing, OutOfWorld, TooManyPositions, OutOfMemory}
 use Rattle.sc_geom.specs.Point.{IsInWorld}
 use Rattle.sc_geom.specs.Geometry.{IsGeometry}
-use Rattle.sc_geom.specs.Shapes.{Shapes, joined, rings_of, positions_of, map_shapes, beside, first_of, last_of}
+use Rattle.sc_geom.specs.Shapes.{Shapes, joined, rings_of, map_shapes, beside, first_of, last_of}
 use Rattle.sc_geom.specs.Sketch.{Sketch, place_at, is_open, has_open_ring, leaves_world}
 use Rattle.sc_geom.specs.Depicts.{Depicts, AllDepict}
 use Rattle.sc_geom.specs.Answers.{count_of}

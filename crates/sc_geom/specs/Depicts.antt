@@ -5,7 +5,7 @@ use Rattle.sc_json.specs.declared.tree.Json.{Json}
 use Rattle.sc_json.specs.declared.tree.Member.{Member}
 use Rattle.sc_geom.specs.declared.kind.Kind.{Kind}
 use Rattle.sc_geom.specs.declared.kind.Kind.TheVariants.{GeometryCollection}
-use Rattle.sc_geom.specs.Shapes.{Shapes, nothing, beside}
+use Rattle.sc_geom.specs.Shapes.{nothing, beside}
 use Rattle.sc_geom.specs.Sketch.{Sketch}
 use Rattle.sc_geom.specs.Tree.{list_of, members_of, text_of, member_named}
 use Rattle.sc_geom.specs.Kinds.{kind_named, type_name, coordinates_name, geometries_name}

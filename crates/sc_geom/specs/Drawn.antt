@@ -1,12 +1,11 @@
 -- What coordinates draw (RFC 7946 §3.1.1 to §3.1.7).
-use Rattle.std.specs.Prelude.{ℕ, nat_le, if◌then◌else◌, List, [], ◌∷◌, length, Option, Some, None}
+use Rattle.std.specs.Prelude.{nat_le, if◌then◌else◌, List, [], ◌∷◌, length, Option, Some, None}
 use Rattle.std.specs.Option.{option_map, option_and_then}
 use Rattle.sc_decimal.specs.Number.{Number}
 use Rattle.sc_json.specs.declared.tree.Json.{Json}
 use Rattle.sc_geom.specs.declared.point.Pt.{Pt}
 use Rattle.sc_geom.specs.declared.kind.Kind.{Kind}
 use Rattle.sc_geom.specs.declared.kind.Kind.TheVariants.{Point, MultiPoint, LineString, MultiLineString, Polygon, MultiPolygon, GeometryCollection}
-use Rattle.sc_geom.specs.Shapes.{Shapes}
 use Rattle.sc_geom.specs.Sketch.{Sketch}
 use Rattle.sc_geom.specs.Place.{place_of}
 use Rattle.sc_geom.specs.Tree.{list_of, number_of}

@@ -1,5 +1,5 @@
 -- What every geometry on the grid is: RFC 7946 §3.1 with every kind flattened into points, lines and areas.
-use Rattle.std.specs.Prelude.{◌≡◌, ℕ, ◌≤◌, List, All, length}
+use Rattle.std.specs.Prelude.{◌≡◌, ◌≤◌, List, All, length}
 use Rattle.sc_geom.specs.declared.point.Pt.{Pt}
 use Rattle.sc_geom.specs.Point.{IsInWorld}
 use Rattle.sc_geom.specs.Shapes.{Shapes, positions_of, rings_of, first_of, last_of}

@@ -1,5 +1,5 @@
 -- Shapes whose positions may lie outside the world, where they are none.
-use Rattle.std.specs.Prelude.{ℕ, ◌&&◌, ◌||◌, not, nat_lt, is_none, Bool, true, false, List, length, Option, Some, None}
+use Rattle.std.specs.Prelude.{◌&&◌, ◌||◌, not, nat_lt, is_none, Bool, false, List, length, Option, Some, None}
 use Rattle.std.specs.Ordering.{int_eq}
 use Rattle.std.specs.List.{list_any}
 use Rattle.sc_geom.specs.declared.point.Pt.{Pt}

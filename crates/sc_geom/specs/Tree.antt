@@ -1,7 +1,7 @@
 -- Members of objects and elements of lists (RFC 8259 §4, §5).
 use Rattle.std.specs.Prelude.{ℕ, List, Option, Some, None, nat_eq, position}
 use Rattle.std.specs.List.{find}
-use Rattle.std.specs.Option.{option_map, option_and_then}
+use Rattle.std.specs.Option.{option_map}
 use Rattle.std.specs.Cmp.Lexicographic.{pointwise}
 use Rattle.sc_decimal.specs.Number.{Number}
 use Rattle.sc_json.specs.declared.tree.Json.{Json}

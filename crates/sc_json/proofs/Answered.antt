@@ -1,5 +1,5 @@
 -- What the reader answers, in the words of the format.
-use Rattle.std.proofs.Common.{◌≡◌, ◌⊎◌, inl, inr, ℕ, List, Result, Ok, Err, refl, sym, subst, ◌∙◌, IsUtf8}
+use Rattle.std.proofs.Common.{◌≡◌, ℕ, List, Result, Ok, Err, refl, sym, ◌∙◌, IsUtf8}
 use Rattle.std.specs.Str.Lossy.{utf8_valid_len}
 use Rattle.sc_json.specs.declared.tree.Json.{Json}
 use Rattle.sc_json.specs.declared.fault.JsonFault.{JsonFault}
@@ -7,10 +7,10 @@ use Rattle.sc_json.specs.declared.fault.JsonFault.TheVariants.{Syntax, Duplicate
 use Rattle.sc_json.specs.Machine.{read_of, Reads}
 use Rattle.sc_json.specs.Faults.{IsFirstFault, JsonFaultOf, Answers}
 use Rattle.sc_json.specs.Spells.{Spells}
-use Rattle.sc_json.proofs.Spelled.{read_spells, spells_read, spelled_once}
+use Rattle.sc_json.proofs.Spelled.{read_spells, spells_read}
 use Rattle.sc_json.proofs.SpelledUtf8.{padded_utf8}
 use Rattle.sc_json.proofs.FaultIs.{first_fault, fault_read}
-use Rattle.sc_json.proofs.FaultLaws.{cut_is, no_cut, one_fault}
+use Rattle.sc_json.proofs.FaultLaws.{cut_is, no_cut}
 
 abbrev Same : Result Json JsonFault → Result Json JsonFault → Type 0
 Same r s = r ≡ s

@@ -1,21 +1,20 @@
 -- The reader's fault is the text's fault, and a text has a fault exactly where the reader answers one.
-use Rattle.std.proofs.Common.{◌≡◌, ◌⊎◌, inl, inr, ℕ, ◌+◌, ◌<◌, ◌≤◌, List, [], ◌∷◌, ◌++◌, length, take, Option, Some, None, Result, Ok, Err, refl, sym, ap, subst, ◌∙◌, arith, length-append, IsUtf8}
-use Rattle.std.proofs.lemmas.Bool.{cases_lt}
+use Rattle.std.proofs.Common.{◌≡◌, ℕ, ◌+◌, ◌≤◌, List, [], ◌∷◌, ◌++◌, length, Option, Some, None, Result, Ok, Err, refl, sym, ap, subst, ◌∙◌, arith, IsUtf8}
 use Rattle.sc_json.specs.declared.tree.Json.{Json}
 use Rattle.sc_json.specs.declared.state.State.{State}
 use Rattle.sc_json.specs.declared.fault.JsonFault.{JsonFault}
 use Rattle.sc_json.specs.declared.fault.JsonFault.TheVariants.{Syntax, Duplicate, TooDeep, NumberTooWide, NotUtf8, OutOfMemory}
-use Rattle.sc_json.specs.Machine.{Limit, double, deep, wide, start, step_of, end_value, end_breaks, read_of, limit_fault, IsRead}
+use Rattle.sc_json.specs.Machine.{Limit, double, deep, wide, start, step_of, end_breaks, read_of, limit_fault, IsRead}
 use Rattle.sc_json.specs.Grammar.{Padded}
 use Rattle.sc_json.specs.Fronts.{IsLongestFront}
-use Rattle.sc_json.specs.Faults.{HasFault, place_of, IsFirstFault, JsonFaultOf}
+use Rattle.sc_json.specs.Faults.{HasFault, place_of, IsFirstFault}
 use Rattle.std.proofs.lemmas.List.{append-nil}
 use Rattle.sc_json.proofs.Steps.{Leads, stays, steps, leads_one}
 use Rattle.sc_json.proofs.Only.{spelled_read}
 use Rattle.sc_json.proofs.Sound.{leads_padded}
 use Rattle.sc_json.proofs.FrontPlaces.{Beyond, deep_beyond, wide_beyond, double_beyond, below_longest}
 use Rattle.sc_json.proofs.FrontReads.{syntax_place}
-use Rattle.sc_json.proofs.LimitRuns.{Clean, clean_leads, BreaksAt, Hit, Ahead, ahead, least, limit_place, Outcome, outcome, Broken, Refused, Short, Taken, broken, refuses, short, taken}
+use Rattle.sc_json.proofs.LimitRuns.{Clean, clean_leads, BreaksAt, Hit, Ahead, ahead, least, limit_place, Outcome, outcome, Broken, broken, refuses, short, taken}
 use Rattle.sc_json.proofs.LimitEvents.{deep_hit, double_hit}
 use Rattle.sc_json.proofs.LimitNumbers.{wide_hit}
 use Rattle.sc_json.proofs.LimitReads.{limit_has}

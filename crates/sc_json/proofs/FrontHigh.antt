@@ -1,5 +1,5 @@
 -- A byte past ASCII is taken within a text in quotes alone, where it is never refused.
-use Rattle.std.proofs.Common.{◌≡◌, ◌≢◌, ℕ, ◌+◌, ◌<◌, ◌≤◌, List, [], ◌∷◌, ◌++◌, Bool, true, false, eqb, leb, ltb, ◌&&◌, ◌||◌, Option, Some, None, refl, sym, ap, subst, ◌∙◌, arith}
+use Rattle.std.proofs.Common.{◌≡◌, ℕ, ◌<◌, ◌≤◌, List, [], ◌∷◌, ◌++◌, Bool, true, false, eqb, leb, ltb, ◌&&◌, Option, Some, None, refl, sym, subst, ◌∙◌, arith}
 use Rattle.std.specs.Option.{option_map_or}
 use Rattle.std.proofs.lemmas.Bool.{ne_eqb}
 use Rattle.std.proofs.lemmas.Bool.Decides.{nat_tests}
@@ -17,7 +17,7 @@ use Rattle.sc_json.specs.declared.state.Letters.{Letters}
 use Rattle.sc_json.specs.declared.state.Letters.TheVariants as letters
 use Rattle.sc_json.specs.Hex.{hex_of}
 use Rattle.sc_json.specs.Numbers.{next_part}
-use Rattle.sc_json.specs.Pieces.{piece_of, digit_in}
+use Rattle.sc_json.specs.Pieces.{piece_of}
 use Rattle.sc_json.specs.Characters.{is_blank_byte, is_digit_byte}
 use Rattle.sc_json.specs.Machine.{at, step_in, step_of, begin_of, inner_of, after_of, ended_value, word_of}
 

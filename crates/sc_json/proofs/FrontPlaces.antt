@@ -1,10 +1,9 @@
 -- What ends with a fault's token is a front.
-use Rattle.std.proofs.Common.{◌≡◌, inl, inr, ℕ, ◌+◌, ◌<◌, ◌≤◌, List, [], ◌∷◌, ◌++◌, length, take, true, refl, sym, ap, subst, ◌∙◌, arith, append_assoc, length-append}
-use Rattle.std.proofs.lemmas.List.{append-nil, take-append-le}
-use Rattle.sc_json.specs.Machine.{is_blank_byte}
+use Rattle.std.proofs.Common.{◌≡◌, inl, inr, ℕ, ◌+◌, ◌<◌, ◌≤◌, List, [], ◌∷◌, ◌++◌, length, take, refl, sym, ap, subst, ◌∙◌, arith, append_assoc, length-append}
+use Rattle.std.proofs.lemmas.List.{append-nil}
 use Rattle.sc_json.specs.Grammar as grammar
 use Rattle.sc_json.specs.Grammar.{AreBlanks, Literal, pad}
-use Rattle.sc_json.specs.Fronts.{Front, nothing, in_number, in_list, in_object, PaddedFront, before, behind, MemberFront, no_name, named, at_value, IsLongestFront}
+use Rattle.sc_json.specs.Fronts.{Front, nothing, in_number, in_list, in_object, PaddedFront, before, behind, no_name, named, at_value, IsLongestFront}
 use Rattle.sc_json.specs.Faults.{Awaits, outermost, element, member_value, OpensTooDeep, IsTooWide, IsDuplicate}
 
 pub blanks_append : (l r : List ℕ) → AreBlanks l → AreBlanks r → AreBlanks (l ++ r)

@@ -1,5 +1,5 @@
 -- Where the machine stands, what was read is a front; so it refuses a text at the end of its longest front.
-use Rattle.std.proofs.Common.{◌≡◌, ◌⊎◌, inl, inr, ℕ, ◌+◌, ◌<◌, ◌≤◌, List, [], ◌∷◌, ◌++◌, length, take, drop, get_or, Bool, true, false, Option, Some, None, Result, Ok, Err, refl, sym, ap, subst, ◌∙◌, arith, append_assoc, length-append, IsUtf8}
+use Rattle.std.proofs.Common.{◌≡◌, inl, inr, ℕ, ◌+◌, ◌<◌, ◌≤◌, List, [], ◌∷◌, ◌++◌, length, take, drop, Bool, true, false, Option, Some, None, Result, Ok, Err, refl, sym, ap, subst, ◌∙◌, arith, append_assoc, length-append, IsUtf8}
 use Rattle.std.proofs.lemmas.Bool.{cases_lt}
 use Rattle.std.proofs.lemmas.List.{append-nil, take_at, take-append-drop, take_all, length-take-le}
 use Rattle.std.proofs.lemmas.Str.{IsUtf8-nil}
@@ -16,9 +16,9 @@ use Rattle.sc_json.specs.declared.fault.JsonFault.TheVariants.{Syntax}
 use Rattle.sc_json.specs.Machine.{start, step_of, read_of, Limit, double, deep, wide, limit_fault}
 use Rattle.sc_json.specs.Grammar as grammar
 use Rattle.sc_json.specs.Grammar.{AreBlanks}
-use Rattle.sc_json.specs.Fronts.{IsWord, Front, nothing, in_word, in_number, in_text, in_list, in_object, PaddedFront, before, behind, MemberFront, no_name, in_name, named, at_value, IsLongestFront}
+use Rattle.sc_json.specs.Fronts.{Front, nothing, in_word, in_number, in_text, in_list, in_object, PaddedFront, before, behind, MemberFront, no_name, in_name, named, at_value, IsLongestFront}
 use Rattle.sc_json.proofs.Steps.{Leads, stays, steps, leads_one}
-use Rattle.sc_json.proofs.SoundStates.{Inside, InObject, Reads, letters_of}
+use Rattle.sc_json.proofs.SoundStates.{Inside, Reads, letters_of}
 use Rattle.sc_json.proofs.Sound.{reads_from_start}
 use Rattle.sc_json.proofs.FrontStacks.{TakesValue, Fits, start_fits}
 use Rattle.sc_json.proofs.FrontTokens.{number_front}

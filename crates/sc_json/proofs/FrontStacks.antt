@@ -1,5 +1,5 @@
 -- A value stands only where nothing, a list or a member is open, and a name only where an object is.
-use Rattle.std.proofs.Common.{◌≡◌, ℕ, ◌+◌, List, [], ◌∷◌, ◌++◌, Bool, true, false, cond, eqb, Option, Some, None, refl, subst}
+use Rattle.std.proofs.Common.{◌≡◌, ℕ, List, [], ◌∷◌, ◌++◌, Bool, true, false, cond, eqb, Option, Some, None, subst}
 use Rattle.std.specs.Option.{option_map_or}
 use Rattle.sc_base.specs.Text.{text_of}
 use Rattle.sc_json.specs.declared.tree.Json.{Json}
@@ -15,7 +15,7 @@ use Rattle.sc_json.specs.declared.state.Piece.TheVariants as pieces
 use Rattle.sc_json.specs.declared.state.Letters.{Letters}
 use Rattle.sc_json.specs.declared.state.Letters.TheVariants as letters
 use Rattle.sc_json.specs.declared.quoted.Grown.{Grown}
-use Rattle.sc_json.specs.Machine.{at, start, Move, goes, refused, plain, nested, is_blank_byte, step_in, step_of, scalar_of, begin_of, close_list_of, close_object_of, inner_of, after_of, with_letter, ended_move, ended_value, named_of, unquote_of, with_added, is_plain}
+use Rattle.sc_json.specs.Machine.{at, start, Move, goes, refused, plain, step_in, step_of, begin_of, close_list_of, close_object_of, inner_of, after_of, with_letter, ended_move, ended_value, named_of, unquote_of, with_added, is_plain}
 use Rattle.sc_json.specs.Numbers.{next_part}
 use Rattle.sc_json.specs.Pieces.{piece_of}
 use Rattle.sc_json.proofs.Steps.{Leads, stays, steps}

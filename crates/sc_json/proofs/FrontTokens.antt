@@ -1,10 +1,8 @@
 -- What the machine has read of a number or a text in quotes is a front of it.
-use Rattle.std.proofs.Common.{◌≡◌, ◌≢◌, ◌⊎◌, inl, inr, ℕ, ◌+◌, ◌*◌, ◌<◌, ◌≤◌, List, [], ◌∷◌, ◌++◌, length, take, get_or, true, Some, refl, sym, ap, subst, ◌∙◌, arith, append_assoc, length-append, IsUtf8, IsAscii}
+use Rattle.std.proofs.Common.{◌≡◌, ◌⊎◌, inl, inr, ℕ, ◌+◌, ◌*◌, ◌<◌, ◌≤◌, List, [], ◌∷◌, ◌++◌, Some, refl, sym, ap, subst, ◌∙◌, arith, append_assoc}
 use Rattle.std.specs.Char.{encode_utf8}
 use Rattle.std.proofs.lemmas.Bool.{cases_lt}
 use Rattle.std.proofs.lemmas.List.{append-nil}
-use Rattle.std.proofs.lemmas.Str.{IsUtf8-encode}
-use Rattle.std.proofs.Math.Seq.{take-append_seam, drop-append_seam}
 use Rattle.sc_json.specs.declared.state.Part.{Part}
 use Rattle.sc_json.specs.declared.state.Part.TheVariants as parts
 use Rattle.sc_json.specs.declared.state.Piece as pieces
@@ -15,7 +13,7 @@ use Rattle.sc_json.specs.Grammar.{AreHex, Literal, literal, Pieces}
 use Rattle.sc_json.specs.Fronts.{Escape, by_letter, by_unit, by_pair, TextFront, unclosed}
 use Rattle.sc_json.proofs.Hexadecimal.{hex_is}
 use Rattle.sc_json.proofs.SoundNumbers.{InPart, IsInteger, IsMantissa, part_literal}
-use Rattle.sc_json.proofs.SoundTexts.{Bits, AtPiece, IsHigh, Writes}
+use Rattle.sc_json.proofs.SoundTexts.{AtPiece, IsHigh}
 
 -- ---- numbers
 

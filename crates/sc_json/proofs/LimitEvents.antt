@@ -1,6 +1,5 @@
 -- A bracket that opens level 65, and a name that the object has, are limits that the machine meets.
-use Rattle.std.proofs.Common.{◌≡◌, ◌⊎◌, inl, inr, ℕ, ◌+◌, ◌≤◌, List, [], ◌∷◌, ◌++◌, length, Bool, true, false, leb, ◌&&◌, nat_eq, Some, refl, sym, ap, subst, ◌∙◌, arith, append_assoc, length-append, Any}
-use Rattle.std.specs.List.{list_any}
+use Rattle.std.proofs.Common.{◌≡◌, ◌⊎◌, inl, inr, ℕ, ◌+◌, List, [], ◌∷◌, ◌++◌, length, Bool, true, false, leb, ◌&&◌, nat_eq, Some, refl, sym, ap, subst, ◌∙◌, arith, append_assoc, length-append, Any}
 use Rattle.std.specs.Cmp.Lexicographic.{pointwise}
 use Rattle.std.proofs.lemmas.Bool.Decides.{nat_tests}
 use Rattle.std.proofs.lemmas.List.Folds.{Any-from_list_any, list_any-from_Any}
@@ -12,7 +11,7 @@ use Rattle.sc_json.specs.declared.state.Frame.{Frame}
 use Rattle.sc_json.specs.declared.state.Frame.TheVariants as frames
 use Rattle.sc_json.specs.declared.state.Mode.TheVariants.{Value, FirstName, Name}
 use Rattle.sc_json.specs.declared.state.Piece.TheVariants.{Plain}
-use Rattle.sc_json.specs.Machine.{at, step_of, Limit, double, deep, has_name, is_blank_byte}
+use Rattle.sc_json.specs.Machine.{at, step_of, double, deep, has_name}
 use Rattle.sc_json.specs.Faults.{OpensTooDeep, IsDuplicate}
 use Rattle.sc_json.proofs.Steps.{Leads, steps, leads_on, within}
 use Rattle.sc_json.proofs.Utf8.{pieces_utf8, text_is}

@@ -1,23 +1,21 @@
 -- A number that is too wide is a limit that the machine meets, and only such a one is.
-use Rattle.std.proofs.Common.{◌≡◌, ◌⊎◌, inl, inr, ℕ, ◌+◌, ◌-◌, ◌<◌, ◌≤◌, List, [], ◌∷◌, ◌++◌, length, take, Bool, true, false, cond, eqb, ◌&&◌, leb, Option, Some, None, refl, sym, ap, subst, ◌∙◌, arith, append_assoc, length-append}
-use Rattle.std.specs.Option.{option_map_or}
+use Rattle.std.proofs.Common.{◌≡◌, ◌⊎◌, inl, inr, ℕ, ◌+◌, ◌-◌, List, [], ◌∷◌, ◌++◌, length, take, Bool, true, false, cond, eqb, Option, Some, None, refl, sym, ap, subst, ◌∙◌, arith, append_assoc, length-append}
 use Rattle.std.proofs.lemmas.List.{append-nil, take_at}
 use Rattle.sc_decimal.specs.Value.{is_wide}
-use Rattle.sc_json.specs.declared.tree.Json.{Json}
 use Rattle.sc_json.specs.declared.state.State.{State}
 use Rattle.sc_json.specs.declared.state.Frame.{Frame}
 use Rattle.sc_json.specs.declared.state.Mode.TheVariants.{Number}
 use Rattle.sc_json.specs.declared.state.Part.{Part}
 use Rattle.sc_json.specs.declared.state.Part.TheVariants as parts
 use Rattle.sc_json.specs.Characters.{is_digit_byte}
-use Rattle.sc_json.specs.Numbers.{next_part, behind_whole, is_whole, point_of, mark_of, power_of}
+use Rattle.sc_json.specs.Numbers.{next_part, behind_whole, is_whole, point_of, mark_of}
 use Rattle.sc_json.specs.Machine.{at, start, step_of, end_breaks, Limit, wide, ended_breaks, wide_of}
 use Rattle.sc_json.specs.Grammar.{Literal}
 use Rattle.sc_json.specs.Faults.{IsTooWide}
 use Rattle.sc_json.proofs.Steps.{Leads, stays, steps, leads_on}
 use Rattle.sc_json.proofs.Words.{number_goes}
 use Rattle.sc_json.proofs.Literals.{literal_led}
-use Rattle.sc_json.proofs.SoundNumbers.{InPart, part_literal, part_keeps, chosen, some_is}
+use Rattle.sc_json.proofs.SoundNumbers.{InPart, part_literal, part_keeps}
 use Rattle.sc_json.proofs.Sound.{reads_from_start}
 use Rattle.sc_json.proofs.FrontRuns.{awaits_went}
 use Rattle.sc_json.proofs.LimitRuns.{BreaksAt, Hit}

@@ -20,7 +20,7 @@ use Rattle.sc_json.specs.declared.state.Part.TheVariants as parts
 use Rattle.sc_json.specs.declared.state.Piece as pieces
 use Rattle.sc_json.specs.declared.state.Piece.TheVariants.{Plain, Slash, Unit as Units, Unit1, Unit2, Unit3, Pair, PairSlash, Low, Low1, Low2, Low3}
 use Rattle.sc_json.specs.Numbers.{next_part, behind_whole, is_whole}
-use Rattle.sc_json.specs.Machine.{at, start, Move, goes, plain, nested, step_in, step_of, end_breaks, end_breaks_in, Limit, double, deep, wide, limit_fault, is_blank_byte, scalar_of, close_list_of, begin_of, ended_breaks, wide_of, number_move, ended_move, named_of, unquote_of, refused, has_name, is_plain, grown_of}
+use Rattle.sc_json.specs.Machine.{at, start, Move, goes, plain, nested, step_in, step_of, end_breaks, end_breaks_in, Limit, double, deep, wide, limit_fault, is_blank_byte, scalar_of, close_list_of, begin_of, ended_breaks, wide_of, number_move, ended_move, named_of, unquote_of, refused, has_name, grown_of}
 use Rattle.sc_json.specs.Grammar as grammar
 use Rattle.sc_json.specs.Grammar.{AreBlanks, Literal, literal}
 use Rattle.sc_json.specs.Faults.{Awaits, outermost, element, member_value, OpensTooDeep, IsTooWide, IsDuplicate, HasFault}
@@ -33,11 +33,11 @@ use Rattle.sc_json.proofs.SoundTexts.{writes_bits}
 use Rattle.sc_json.proofs.SoundUtf8.{bits_pieces}
 use Rattle.sc_json.proofs.SoundStates.{Inside, Reads}
 use Rattle.sc_json.proofs.Sound.{reads_from_start}
-use Rattle.sc_json.proofs.FrontRuns.{Cut, leads_cut, awaits_went}
+use Rattle.sc_json.proofs.FrontRuns.{leads_cut, awaits_went}
 use Rattle.sc_json.proofs.FrontStacks.{TakesValue, Fits, start_fits}
-use Rattle.sc_json.proofs.LimitRuns.{Clean, clean_leads, BreaksAt, Hit, ahead, from_of, token_back, ended_leaves, Overlap, overlap, past, within}
+use Rattle.sc_json.proofs.LimitRuns.{Clean, clean_leads, BreaksAt, Hit, ahead, from_of, token_back, ended_leaves, overlap, past, within}
 use Rattle.sc_json.proofs.LimitEvents.{from_has, deep_hit, deep_hit_at}
-use Rattle.sc_json.proofs.LimitNumbers.{NoMore, front_is, part_steps, Behind, whole_behind, count_is, nothing_more, at_end, at_byte}
+use Rattle.sc_json.proofs.LimitNumbers.{NoMore, front_is, part_steps, Behind, whole_behind, count_is, nothing_more}
 
 -- ---- where a value may begin
 

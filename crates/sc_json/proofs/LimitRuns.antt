@@ -3,7 +3,6 @@ use Rattle.std.proofs.Common.{◌≡◌, ◌⊎◌, inl, inr, ℕ, ◌+◌, ◌<
 use Rattle.std.specs.Option.{option_map_or}
 use Rattle.std.proofs.lemmas.Bool.{cases_lt}
 use Rattle.sc_json.specs.declared.tree.Json.{Json}
-use Rattle.sc_json.specs.declared.tree.Member.{Member}
 use Rattle.sc_json.specs.declared.state.State.{State}
 use Rattle.sc_json.specs.declared.state.Frame.{Frame}
 use Rattle.sc_json.specs.declared.state.Frame.TheVariants as frames
@@ -11,20 +10,19 @@ use Rattle.sc_json.specs.declared.state.Mode.{Mode}
 use Rattle.sc_json.specs.declared.state.Mode.TheVariants.{Value, First, FirstName, Name, Colon, Word, Number, Quoted, After}
 use Rattle.sc_json.specs.declared.state.Part.{Part}
 use Rattle.sc_json.specs.declared.state.Part.TheVariants as parts
-use Rattle.sc_json.specs.declared.state.Piece.{Piece}
 use Rattle.sc_json.specs.declared.state.Piece.TheVariants as pieces
 use Rattle.sc_json.specs.declared.state.Letters.{Letters}
 use Rattle.sc_json.specs.declared.state.Letters.TheVariants as letters
 use Rattle.sc_json.specs.declared.quoted.Grown.{Grown}
 use Rattle.sc_json.specs.declared.fault.JsonFault.{JsonFault}
 use Rattle.sc_json.specs.declared.fault.JsonFault.TheVariants.{Syntax}
-use Rattle.sc_json.specs.Machine.{at, start, Limit, double, deep, wide, Move, goes, refused, plain, nested, is_blank_byte, step_in, step_of, end_value, end_breaks, end_breaks_in, read_from, read_of, ended, unless, limit_fault, scalar_of, begin_of, close_list_of, close_object_of, inner_of, after_of, with_letter, ended_move, ended_breaks, unfinished_breaks, wide_of, named_of, with_added, has_name, is_plain, ended_value, unquote_of}
-use Rattle.sc_json.specs.Numbers.{behind_whole, is_whole, next_part}
+use Rattle.sc_json.specs.Machine.{at, start, Limit, double, deep, wide, Move, goes, refused, plain, nested, is_blank_byte, step_in, step_of, end_value, end_breaks, end_breaks_in, read_from, ended, unless, limit_fault, scalar_of, begin_of, close_list_of, close_object_of, inner_of, after_of, with_letter, ended_move, ended_breaks, wide_of, named_of, with_added, is_plain, ended_value, unquote_of}
+use Rattle.sc_json.specs.Numbers.{behind_whole, next_part}
 use Rattle.sc_json.specs.Pieces.{piece_of}
 use Rattle.sc_base.specs.Text.{text_of}
 use Rattle.sc_json.specs.declared.tree.Json.TheVariants as trees
 use Rattle.sc_json.proofs.Steps.{Leads, stays, steps, leads_one}
-use Rattle.sc_json.proofs.FrontRuns.{Cut, leads_cut}
+use Rattle.sc_json.proofs.FrontRuns.{leads_cut}
 
 -- a run on which no limit is broken
 pub data Clean : List ℕ → ℕ → State → State → Type 0 where

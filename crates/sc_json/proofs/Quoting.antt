@@ -1,10 +1,10 @@
 -- Texts in quotes, as they are written.
-use Rattle.std.proofs.Common.{◌≡◌, ℕ, ◌+◌, ◌<◌, ◌≤◌, List, [], ◌∷◌, ◌++◌, length, take, drop, get_or, Bool, true, false, eqb, ltb, leb, ◌&&◌, not, refl, sym, ap, ◌∙◌, append_assoc, add-one, drop-cons, arith}
+use Rattle.std.proofs.Common.{◌≡◌, ℕ, ◌+◌, ◌<◌, List, [], ◌∷◌, ◌++◌, length, take, drop, get_or, true, false, eqb, leb, ◌&&◌, not, refl, sym, ap, ◌∙◌, append_assoc, add-one, drop-cons, arith}
 use Rattle.std.proofs.lemmas.Bool.Decides.{nat_tests}
 use Rattle.std.proofs.lemmas.List.{take-append-drop, take_all}
 use Rattle.std.specs.List.{list_all, flat_map, slice_range}
 use Rattle.sc_json.specs.Pieces.{is_plain_byte}
-use Rattle.sc_json.specs.Compact.{letter_of, escaped, quoted}
+use Rattle.sc_json.specs.Compact.{escaped, quoted}
 use Rattle.sc_json.proofs.RunsOn.{and_both, not_false, not_control}
 
 -- a byte above the control characters is none of these

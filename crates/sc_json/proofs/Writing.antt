@@ -1,5 +1,5 @@
 -- Lists and objects, as they are written: the text of the row within is that of the list.
-use Rattle.std.proofs.Common.{◌≡◌, ℕ, List as Lists, [], ◌∷◌, ◌++◌, refl, sym, ◌∙◌, ap, append_assoc}
+use Rattle.std.proofs.Common.{◌≡◌, ℕ, List as Lists, [], ◌∷◌, ◌++◌, refl, ◌∙◌, ap, append_assoc}
 use Rattle.std.specs.List.{flat_map}
 use Rattle.sc_json.specs.declared.tree.Json.{Json, List, Object, Row_of-Json, end_of-Json, more_of-Json, items-the_row-Json, items_hidden-the_row-Json-0, items-the_row-Member, items_hidden-the_row-Member-1, Row_of-Member, end_of-Member, more_of-Member}
 use Rattle.sc_json.specs.declared.tree.Json.TheBlock.{hidden-the_row-Json-0, shape-the_row-Json-0, hidden-the_row-Member-1, shape-the_row-Member-1}

@@ -1,5 +1,5 @@
 -- A text in quotes, as it is written, is one of the grammar.
-use Rattle.std.proofs.Common.{◌≡◌, ◌≢◌, ℕ, ◌+◌, ◌*◌, ◌/◌, ◌%◌, ◌<◌, ◌≤◌, ◌⊎◌, inl, inr, List, [], ◌∷◌, ◌++◌, Bool, true, false, eqb, ltb, leb, ◌&&◌, not, Option, Some, None, refl, sym, ap, subst, ◌∙◌, append_assoc, arith, cond}
+use Rattle.std.proofs.Common.{◌≡◌, ◌≢◌, ℕ, ◌+◌, ◌/◌, ◌%◌, ◌<◌, ◌≤◌, ◌⊎◌, inl, inr, List, [], ◌∷◌, ◌++◌, Bool, true, false, eqb, ltb, leb, Some, None, refl, sym, ap, subst, ◌∙◌, append_assoc, arith, cond}
 use Rattle.std.proofs.lemmas.Bool.{ne_eqb}
 use Rattle.std.proofs.lemmas.Bool.Decides.{nat_tests}
 use Rattle.std.proofs.lemmas.List.{append-nil}
@@ -12,7 +12,7 @@ use Rattle.sc_json.specs.Hex.{hex_of}
 use Rattle.sc_json.specs.Pieces.{is_plain_byte}
 use Rattle.sc_json.specs.Grammar.{Letter, IsPlain, IsLetter, IsUnit, AreHex, Piece, Pieces, Quoted, no_piece, one_more}
 use Rattle.sc_json.specs.Grammar as grammar
-use Rattle.sc_json.specs.Compact.{hex_digit, letter_of, unlettered, escaped, quoted}
+use Rattle.sc_json.specs.Compact.{hex_digit, letter_of, escaped, quoted}
 use Rattle.sc_json.proofs.RunsOn.{and_both}
 use Rattle.sc_json.proofs.Quoting.{plain_escaped, flat_map_two}
 use Rattle.sc_json.proofs.Utf8.{IsPlainByte, ArePlain, char_plain}

@@ -1,4 +1,4 @@
-use Rattle.std.proofs.Common.{◌≡◌, List, [], ◌∷◌, ◌++◌, subst, ap, refl, sym}
+use Rattle.std.proofs.Common.{[], ◌∷◌, ◌++◌, subst, ap, refl, sym}
 use Rattle.std.specs.Option.{option_map}
 use Rattle.std.proofs.lemmas.Result.{err_from_is_err_and}
 use Rattle.sc_geom.specs.Drawn.{each, area_of, areas_only}

@@ -2,7 +2,7 @@ use Rattle.std.proofs.Common.{◌≡◌, List, Option, Some, take}
 use Rattle.sc_geom.specs.declared.point.Pt.{Pt}
 use Rattle.sc_geom.specs.Shapes.{beside}
 use Rattle.sc_geom.specs.Sketch.{Sketch}
-use Rattle.sc_geom.specs.Drawn.{line_of, area_of, all_read, lines_only, areas_only}
+use Rattle.sc_geom.specs.Drawn.{line_of, all_read, lines_only}
 use Rattle.sc_geom.specs.Building.{IsDraft}
 use Rattle.sc_geom.proofs.coordinates.add_lines.Given as goal
 

@@ -1,4 +1,4 @@
-use Rattle.std.proofs.Common.{◌≡◌, IsTrue, IsSome, None, Some, [], ◌∷◌, ◌++◌, false, subst}
+use Rattle.std.proofs.Common.{◌≡◌, IsSome, None, [], ◌∷◌, ◌++◌}
 use Rattle.sc_geom.specs.Tree.{number_of}
 use Rattle.sc_geom.specs.Drawn.{all_read}
 use Rattle.sc_geom.proofs.Lists.{all_read_stops}

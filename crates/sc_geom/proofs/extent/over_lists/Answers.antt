@@ -1,6 +1,5 @@
-use Rattle.std.proofs.Common.{List, subst, sym}
+use Rattle.std.proofs.Common.{subst, sym}
 use Rattle.std.specs.Prelude.{All}
-use Rattle.sc_geom.specs.declared.point.Pt.{Pt}
 use Rattle.sc_geom.specs.Point.{IsInWorld}
 use Rattle.sc_geom.proofs.Smallest.{all_part}
 use Rattle.sc_geom.proofs.extent.over_lists.Goals as goal

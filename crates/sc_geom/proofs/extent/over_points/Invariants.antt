@@ -1,6 +1,5 @@
 use Rattle.std.proofs.Common.{List, ◌++◌, take}
 use Rattle.sc_geom.specs.declared.point.Pt.{Pt}
-use Rattle.sc_geom.specs.Shapes.{joined}
 use Rattle.sc_geom.specs.Rectangle.{Encloses}
 use Rattle.sc_geom.proofs.extent.over_points.Given as goal
 

@@ -1,5 +1,4 @@
-use Rattle.std.proofs.Common.{◌≡◌, [], ◌∷◌, ◌++◌, ap, subst, sym, arith}
-use Rattle.std.specs.Int.{int_min, int_max}
+use Rattle.std.proofs.Common.{◌≡◌, [], ◌∷◌, ap, subst, arith}
 use Rattle.std.proofs.lemmas.Int.{ints, clamps}
 use Rattle.sc_geom.specs.Rectangle.{Rectangle, Encloses, IsSmallest}
 use Rattle.sc_geom.proofs.Smallest.{smallest_first, smallest_more}

@@ -1,4 +1,4 @@
-use Rattle.std.proofs.Common.{rules, ◌≡◌, ℕ, ◌+◌, List, [], ◌∷◌, ◌++◌, take, get_or, Some, None, false, refl, ap, sym, subst, ◌∙◌}
+use Rattle.std.proofs.Common.{rules, ◌≡◌, ℕ, ◌+◌, List, [], ◌∷◌, ◌++◌, take, get_or, Some, None, false, ap, sym, subst, ◌∙◌}
 use Rattle.std.proofs.lemmas.List.{take_more}
 use Rattle.std.proofs.lemmas.Result.{err_from_is_err_and}
 use Rattle.sc_json.specs.declared.tree.Json.{Json}
@@ -13,7 +13,7 @@ use denote.Enum.Bare.{sameb}
 use Rattle.std.proofs.lemmas.Bool.{false≢true}
 use Rattle.sc_geom.specs.Depicts.{AllDepict, none_left}
 use Rattle.sc_geom.specs.Building.{IsDraft}
-use Rattle.sc_geom.proofs.Depicting.{beside_assoc, beside_nothing, AllDepict-push, no_members, no_kind, none_named}
+use Rattle.sc_geom.proofs.Depicting.{beside_assoc, beside_nothing, AllDepict-push, no_members}
 use Rattle.sc_geom.proofs.Results.{members_of-object, list_of-list, named_at, named_nowhere, drawn_result, collected_result, none_listed, nowhere_collected, stopped_depicting}
 use Rattle.sc_geom.proofs.read.+geometry.Goals as goal
 

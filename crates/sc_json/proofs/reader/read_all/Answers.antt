@@ -1,4 +1,4 @@
-use Rattle.std.proofs.Common.{◌≡◌, ℕ, ◌+◌, ◌<◌, length, drop, sym, subst, ◌∙◌, arith, Result, Err}
+use Rattle.std.proofs.Common.{ℕ, ◌+◌, ◌<◌, length, drop, sym, subst, ◌∙◌, arith, Result, Err}
 use Rattle.sc_json.specs.declared.tree.Json.{Json}
 use Rattle.sc_json.specs.declared.fault.JsonFault.{JsonFault}
 use Rattle.sc_json.specs.Machine.{Reads, read_from, read_of, fault_of}

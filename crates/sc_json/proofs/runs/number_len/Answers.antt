@@ -1,4 +1,4 @@
-use Rattle.std.proofs.Common.{◌≡◌, ◌∙◌, ap, sym, take, get_or}
+use Rattle.std.proofs.Common.{◌∙◌, ap, sym, take, get_or}
 use Rattle.std.proofs.lemmas.List.{take_more}
 use Rattle.std.specs.Option.{option_and_then}
 use Rattle.sc_json.specs.Numbers.{next_part, parts_on}

@@ -1,4 +1,4 @@
-use Rattle.std.proofs.Common.{◌≤◌, sym, subst, arith, ap, ◌∙◌}
+use Rattle.std.proofs.Common.{◌≤◌, sym, arith}
 use Rattle.sc_geom.proofs.Finished.{completed, shapes_in, count_drafted}
 use Rattle.sc_geom.proofs.draft.Draft.finish.Goals as goal
 

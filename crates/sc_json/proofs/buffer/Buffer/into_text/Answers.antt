@@ -1,7 +1,6 @@
-use Rattle.std.proofs.Common.{◌≡◌, true, false, ℕ, List, Some, Vec, Global, sym, ap, subst, ◌∙◌}
+use Rattle.std.proofs.Common.{◌≡◌, true, false, ℕ, Some, Vec, Global, sym, ap, subst, ◌∙◌}
 use Rattle.std.proofs.lemmas.Str.{IsUtf8-string_bytes}
 use Rattle.std.specs.Str.{IsUtf8}
-use Rattle.std.specs.Result.{IsOk}
 use Rattle.std.specs.String.{string_bytes}
 use Rattle.sc_base.proofs.Texts.{text_of_utf8, text_of_other}
 use Rattle.sc_json.proofs.buffer.Buffer.into_text.Goals as goal

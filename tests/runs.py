@@ -1,5 +1,5 @@
 #!/usr/bin/env python3
-"""run.py PROGRAM FOLDER..: runs a program over stored cases, and stops at the first that differs.
+"""runs.py PROGRAM FOLDER..: runs a program over stored cases, and stops at the first that differs.
 
 A case of a folder is NAME.args (the words, one a line), NAME.in (standard input), NAME.out and NAME.err (what it must write, byte
 for byte) and NAME.status. It prints 'N passed, M failed', and ends with status 0 only where all pass."""
