@@ -6,6 +6,7 @@
 
 mod cuts;
 mod geometries;
+mod item;
 mod json;
 mod numbers;
 mod times;
@@ -20,7 +21,9 @@ fn answer(alloc: Global, kind: &[u8], input: &[u8]) -> Result<Option<String>, Al
         b"cut-key" => cuts::cut_key(alloc, input),
         b"dec" => Ok(Some(numbers::dec(alloc, input)?)),
         b"dec-order" => numbers::dec_order(alloc, input),
+        b"item" => item::item(alloc, input),
         b"json" => Ok(Some(json::json(alloc, input)?)),
+        b"merge-patch" => item::patch(alloc, input),
         b"instant" => Ok(Some(times::instant(alloc, input)?)),
         b"date" => Ok(Some(times::date(alloc, input)?)),
         b"range" => Ok(Some(times::range(alloc, input)?)),

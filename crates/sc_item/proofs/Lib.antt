@@ -1,5 +1,9 @@
-pub mod Quotes
-pub mod Lines
-pub mod Items
-pub mod Repeats
 pub mod Apart
+pub mod Repeats
+pub mod Members
+pub mod Extending
+pub mod Patches
+pub mod PatchGood
+pub mod Lines
+pub mod Excluding
+pub mod Telling

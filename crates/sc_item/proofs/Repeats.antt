@@ -6,7 +6,7 @@ use Rattle.std.specs.List.{list_any}
 use Rattle.std.proofs.lemmas.List.{take_more}
 use Rattle.std.proofs.lemmas.List.Folds.{list_any-append, list_any_at, Any-from_list_any}
 use Rattle.std.proofs.lemmas.List.Quantifiers.{all_pairs_push}
-use Rattle.sc_item.specs.declared.item.Item.{Item}
+use Rattle.sc_item.specs.Feature.{Feature}
 use Rattle.sc_item.specs.declared.names.Name.{Name}
 use Rattle.sc_item.specs.Names.{HaveOneName, AreApart, IsFirstRepeat}
 use Rattle.sc_item.proofs.Apart.{apart_from_last}
@@ -16,11 +16,11 @@ abbrev pub is_name : Name → Name → Bool
 is_name q k = bytes_eq q.collection.now k.collection.now && bytes_eq q.id.now k.id.now
 
 -- the item has the name
-abbrev pub has_name : Name → Item → Bool
+abbrev pub has_name : Name → Feature → Bool
 has_name q x = bytes_eq x.collection q.collection.now && bytes_eq x.id q.id.now
 
 -- the set has the names of the items and no others, and no two of the items have one name
-pub record Seen (keys : List Name) (front : List Item) : Type 0 where
+pub record Seen (keys : List Name) (front : List Feature) : Type 0 where
   pub same : (q : Name) → list_any (is_name q) keys ≡ list_any (has_name q) front
   pub apart : AreApart front
 
@@ -29,19 +29,19 @@ both true b e = (refl, e)
 both false b e = (e, cc)
 
 -- an item that has the name of another, and one that hasn't
-one_name : (k : Name) (x y : Item) → k.collection.now ≡ x.collection → k.id.now ≡ x.id → has_name k y ≡ true → HaveOneName y x
+one_name : (k : Name) (x y : Feature) → k.collection.now ≡ x.collection → k.id.now ≡ x.id → has_name k y ≡ true → HaveOneName y x
 one_name k x y c i h =
     let b = both (bytes_eq y.collection k.collection.now) (bytes_eq y.id k.id.now) h in
     (same_text _ _ (sym b.0) ∙ c, same_text _ _ (sym b.1) ∙ i)
 
-told_one : (k : Name) (x y : Item) → k.collection.now ≡ x.collection → k.id.now ≡ x.id → HaveOneName y x → has_name k y ≡ true
+told_one : (k : Name) (x y : Feature) → k.collection.now ≡ x.collection → k.id.now ≡ x.id → HaveOneName y x → has_name k y ≡ true
 told_one k x y c i h =
     let a : y.collection ≡ k.collection.now = h.0 ∙ sym c in
     let b : y.id ≡ k.id.now = h.1 ∙ sym i in
     rw (a, b, nat_list_eq_equiv.refl k.collection.now, nat_list_eq_equiv.refl k.id.now)
 
 -- the last of the items has the name
-one_more : (front : List Item) (x : Item) (k q : Name) → k.collection.now ≡ x.collection → k.id.now ≡ x.id → cond (is_name k q) true (list_any (has_name q) front) ≡ list_any (has_name q) (front ++ x ∷ [])
+one_more : (front : List Feature) (x : Feature) (k q : Name) → k.collection.now ≡ x.collection → k.id.now ≡ x.id → cond (is_name k q) true (list_any (has_name q) front) ≡ list_any (has_name q) (front ++ x ∷ [])
 one_more front x k q c i =
     sym (list_any-append (has_name q) front (x ∷ []) ∙ by (list_any (has_name q) front) (is_name k q) (has_name q x) (rw (c, i)))
   where
@@ -54,7 +54,7 @@ one_more front x k q c i =
         cases false true = refl
         cases false false = refl
 
-module _ (items : List Item) (i : ℕ) (x : Item) (k : Name) (lt : i < length items) (is : x ≡ get_or items i x) (c : k.collection.now ≡ x.collection) (d : k.id.now ≡ x.id) where
+module _ (items : List Feature) (i : ℕ) (x : Feature) (k : Name) (lt : i < length items) (is : x ≡ get_or items i x) (c : k.collection.now ≡ x.collection) (d : k.id.now ≡ x.id) where
   more : take (i + 1) items ≡ take i items ++ x ∷ []
   more = take_more items i x lt ∙ ap (λ t. take i items ++ t ∷ []) (sym is)
 
@@ -78,7 +78,7 @@ module _ (items : List Item) (i : ℕ) (x : Item) (k : Name) (lt : i < length it
         again found (subst AreApart more apart);
   }
     where
-      again : (m : ℕ) × (y : Item) × (m < length (take i items)) × (get_or (take i items) m y ≡ y) × (has_name k y ≡ true) → AreApart (take i items ++ x ∷ []) → ⊥
+      again : (m : ℕ) × (y : Feature) × (m < length (take i items)) × (get_or (take i items) m y ≡ y) × (has_name k y ≡ true) → AreApart (take i items ++ x ∷ []) → ⊥
       again (m, y, l, e, h) apart = apart_from_last (take i items) x apart m y l (subst (λ t. HaveOneName t x) (sym e) (one_name k x y c d h))
 
 -- what `insert` answered says whether the name was there

@@ -1,4 +1,11 @@
+pub mod Words
+pub mod Trees
+pub mod Feature
+pub mod Times
+pub mod Shape
+pub mod Reading
+pub mod Made
 pub mod Line
-pub mod Time
-pub mod Item
+pub mod Memory
 pub mod Names
+pub mod Patch

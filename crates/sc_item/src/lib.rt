@@ -1,18 +1,27 @@
-//! Items, and the one form of a line that spells one.
+//! STAC items: what a tree has to be to be one, and what a merge patch makes of a tree.
 #![tactic(auto)]
 
-mod date_time;
+mod fault;
 mod item;
 mod laws;
 mod line;
 mod names;
+mod parts;
+mod patch;
 mod read;
-mod scan;
+mod shape;
 #[cfg(test)]
 mod tests;
+mod times;
+mod trees;
+mod whole;
+mod words;
 
-pub use date_time::DateTime;
+pub use fault::ItemFault;
 pub use item::Item;
 pub use laws::one_item_a_line;
+pub use line::read_line;
 pub use names::first_repeat;
-pub use read::read_line;
+pub use patch::merge_patch;
+pub use read::read_item;
+pub use sc_base::{Seq, Text};

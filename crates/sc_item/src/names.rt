@@ -17,8 +17,8 @@ fn name_of(item: &Item) -> Name<'_>
     ensures id { result.id.now ≡ item.now.id }
 {
     Name {
-        collection: item.collection.as_str(),
-        id: item.id.as_str(),
+        collection: item.collection().as_str(),
+        id: item.id().as_str(),
     }
 }
 

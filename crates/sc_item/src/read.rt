@@ -1,50 +1,22 @@
-ghost use Rattle.std.specs.Prelude.{◌≡◌, ◌<◌, ◌≤◌, ◌↔◌, length, All, IsTrue, IfOk, MatchOption};
-ghost use Rattle.sc_item.specs.Item.{IsName, IsItem, IsNoItem};
+ghost use Rattle.sc_json.specs.Good.{Good};
+ghost use Rattle.sc_item.specs.Reading.{Answers};
 
-use crate::date_time::time_of;
+use crate::fault::ItemFault;
 use crate::item::Item;
-use crate::line::parts_of;
+use crate::parts::parts_of;
+use crate::whole::with_collection;
 use sc_base::Text;
-use std::alloc::{AllocError, Global};
+use sc_json::Json;
+use std::alloc::Global;
 
-/// Whether bytes are a name.
-fn is_name(bytes: &[u8]) -> bool
-    ensures { IsTrue result ↔ IsName bytes.now }
+/// The item that a tree is in a collection, or the first fault for which it is none ([`ItemFault`]). A tree without a member
+/// `collection` gets one, as the last. All else is kept as it is, and only what is named there is read.
+pub fn read_item(alloc: Global, collection: &Text, tree: Json) -> Result<Item, ItemFault>
+    requires { Good tree }
+    ensures { Answers collection.now tree result }
 {
-    !bytes.is_empty()
-        && bytes.len() <= 256
-        && bytes.iter().all(|b| *b >= 32 && *b != b'"' && *b != b'\\')
-}
-
-/// The item that a line spells, or none where it spells none.
-pub fn read_line(alloc: Global, line: &[u8]) -> Result<Option<Item>, AllocError>
-    ensures { IfOk result (λ found. MatchOption found (IsNoItem line.now) (IsItem line.now)) }
-{
-    let Some(parts) = parts_of(line) else {
-        return Ok(None);
-    };
-    if !is_name(parts.collection) {
-        return Ok(None);
-    }
-    if !is_name(parts.id) {
-        return Ok(None);
-    }
-    let Some(time) = time_of(parts.time) else {
-        return Ok(None);
-    };
-    let Some(doc) = Text::of(alloc, line)? else {
-        return Ok(None);
-    };
-    let Some(collection) = Text::of(alloc, parts.collection)? else {
-        return Ok(None);
-    };
-    let Some(id) = Text::of(alloc, parts.id)? else {
-        return Ok(None);
-    };
-    Ok(Some(Item {
-        collection,
-        id,
-        time,
-        doc,
-    }))
+    let parts = parts_of(alloc, collection, &tree)?;
+    let tree = with_collection(alloc, collection, tree)?;
+    let item = Item::of(alloc, collection, parts, tree)?;
+    Ok(item)
 }

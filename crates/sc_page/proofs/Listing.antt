@@ -12,8 +12,8 @@ use Rattle.std.proofs.lemmas.Bool.Decides.{nat_tests}
 use Rattle.std.proofs.lemmas.List.Sorted.{ranks_by, sorted_far, IsPermutation-keeps, IsPermutation-sym, Contains-permutation}
 use Rattle.std.proofs.lemmas.List.Edits.{swapped_from_swap, Swapped, length-swap}
 use Rattle.sc_base.specs.Text.{text_order}
-use Rattle.sc_item.specs.declared.item.Item.{Item}
-use Rattle.sc_item.specs.Names.{HaveOneName, AreApart}
+use Rattle.sc_fixed.specs.declared.item.Item.{Item}
+use Rattle.sc_fixed.specs.Names.{HaveOneName, AreApart}
 use Rattle.sc_page.specs.Page.{every_item, IsFlatPage}
 use Rattle.sc_page.specs.Order.{time_order, default_order, IsItemOrder, IsListing}
 

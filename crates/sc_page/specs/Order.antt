@@ -5,9 +5,9 @@ use Rattle.std.specs.declared.cmp.Ordering.TheVariants.{Less, Equal}
 use Rattle.std.specs.Ordering.{nat_cmp, then_cmp, flip_args, on}
 use Rattle.std.specs.Cmp.{IsTotalOrder}
 use Rattle.sc_base.specs.Text.{text_order}
-use Rattle.sc_item.specs.declared.date_time.DateTime.{DateTime}
-use Rattle.sc_item.specs.declared.item.Item.{Item}
-use Rattle.sc_item.specs.Names.{HaveOneName}
+use Rattle.sc_fixed.specs.declared.date_time.DateTime.{DateTime}
+use Rattle.sc_fixed.specs.declared.item.Item.{Item}
+use Rattle.sc_fixed.specs.Names.{HaveOneName}
 
 -- the earlier of two times is less
 abbrev pub time_order : DateTime → DateTime → Ordering

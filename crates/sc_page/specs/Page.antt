@@ -3,7 +3,7 @@ use Rattle.std.specs.Prelude.{◌≡◌, ℕ, Bool, true, List, ◌++◌, length
 use Rattle.std.specs.declared.cmp.Ordering.{Ordering}
 use Rattle.std.specs.List.{join_with_byte}
 use Rattle.std.specs.Fmt.{decimal}
-use Rattle.sc_item.specs.declared.item.Item.{Item}
+use Rattle.sc_fixed.specs.declared.item.Item.{Item}
 use Rattle.sc_page.specs.Order.{IsListing}
 
 -- the page has the first `limit` of the items that are wanted, in the order

@@ -1,6 +1,6 @@
 ghost use Rattle.std.specs.Prelude.{◌≡◌, ℕ, Bool, List};
 ghost use Rattle.std.specs.declared.cmp.Ordering.{Ordering};
-ghost use Rattle.sc_item.specs.declared.item.Item.{Item};
+ghost use Rattle.sc_fixed.specs.declared.item.Item.{Item};
 ghost use Rattle.sc_page.specs.Order.{IsItemOrder, IsListing, default_order};
 ghost use Rattle.sc_page.specs.Page.{IsFlatPage};
 

@@ -1,8 +1,8 @@
 ghost use Rattle.std.specs.Prelude.{◌≡◌, IfOk};
-ghost use Rattle.sc_item.specs.Names.{AreApart};
+ghost use Rattle.sc_fixed.specs.Names.{AreApart};
 ghost use Rattle.sc_page.specs.Order.{time_order, name_order, default_order, IsListing};
 
-use sc_item::{DateTime, Item};
+use sc_fixed::{DateTime, Item};
 use std::alloc::AllocError;
 use std::cmp::Ordering;
 

@@ -1,11 +1,11 @@
 ghost use Rattle.std.specs.Prelude.{◌≡◌, ◌++◌, ◌∷◌, IfOk, OnOk, flat_map, string_bytes};
-ghost use Rattle.sc_item.specs.Names.{AreApart};
+ghost use Rattle.sc_fixed.specs.Names.{AreApart};
 ghost use Rattle.sc_page.specs.Order.{default_order};
 ghost use Rattle.sc_page.specs.Page.{documents, page_start, page_middle, page_end, bare_page_text, every_item, IsFlatPage};
 
 use crate::order::listed;
 use sc_base::{Seq, Text};
-use sc_item::Item;
+use sc_fixed::Item;
 use std::alloc::{AllocError, Global};
 
 #[tactic(auto, unfolding(crate::specs::Page::page_start))]

@@ -1,5 +1,5 @@
 use crate::{Seq, Text, flat_page, page_text};
-use sc_item::{DateTime, Item, first_repeat};
+use sc_fixed::{DateTime, Item, first_repeat};
 use std::alloc::{AllocError, Global};
 use std::test::Fail;
 

@@ -2,7 +2,7 @@
 use Rattle.std.proofs.Common.{◌≡◌, ℕ, ◌^◌, ◌<◌, ◌≤◌, Bool, true, false, ltb, ◌||◌, List, [], ◌∷◌, ◌++◌, length, refl, sym, ◌∙◌, ap, subst, arith}
 use Rattle.std.specs.declared.option.Option.{Option}
 use Rattle.std.proofs.lemmas.Bool.Decides.{nat_tests}
-use Rattle.sc_item.specs.declared.item.Item.{Item}
+use Rattle.sc_fixed.specs.declared.item.Item.{Item}
 use Rattle.sc_outside.specs.Lines.{lines_to_read}
 use Rattle.sc_outside.proofs.Joined.{concat-lines_of}
 use Rattle.stacd.specs.Lines.{AreItems}

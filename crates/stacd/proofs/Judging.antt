@@ -5,11 +5,11 @@ use Rattle.std.specs.List.{AllZip, concat}
 use Rattle.std.proofs.lemmas.Bool.{cases_lt}
 use Rattle.std.proofs.lemmas.List.{length-append}
 use Rattle.sc_outside.specs.Lines.{lines_to_read, without_feed}
-use Rattle.sc_item.specs.declared.item.Item.{Item}
-use Rattle.sc_item.specs.Item.{IsItem}
-use Rattle.sc_item.specs.Names.{AreApart, IsFirstRepeat}
-use Rattle.sc_item.proofs.Items.{one_item}
-use Rattle.sc_item.proofs.Apart.{apart_front}
+use Rattle.sc_fixed.specs.declared.item.Item.{Item}
+use Rattle.sc_fixed.specs.Item.{IsItem}
+use Rattle.sc_fixed.specs.Names.{AreApart, IsFirstRepeat}
+use Rattle.sc_fixed.proofs.Items.{one_item}
+use Rattle.sc_fixed.proofs.Apart.{apart_front}
 use Rattle.stacd.specs.Lines.{AreSpelled, AreItems, StopAt, IsFirstBad}
 
 abbrev Spells : List ℕ → Item → Type 0

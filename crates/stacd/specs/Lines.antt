@@ -2,9 +2,9 @@
 use Rattle.std.specs.Prelude.{◌≡◌, ℕ, ◌+◌, ◌^◌, ◌≤◌, List, [], ◌∷◌, ◌++◌, length}
 use Rattle.std.specs.List.{AllZip, concat}
 use Rattle.sc_outside.specs.Lines.{without_feed}
-use Rattle.sc_item.specs.declared.item.Item.{Item}
-use Rattle.sc_item.specs.Item.{IsItem}
-use Rattle.sc_item.specs.Names.{AreApart}
+use Rattle.sc_fixed.specs.declared.item.Item.{Item}
+use Rattle.sc_fixed.specs.Item.{IsItem}
+use Rattle.sc_fixed.specs.Names.{AreApart}
 use Rattle.stacd.specs.declared.fault.LineFault.{LineFault}
 use Rattle.stacd.specs.declared.fault.LineFault.TheVariants.{BadLine, OutOfMemory}
 

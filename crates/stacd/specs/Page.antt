@@ -3,7 +3,7 @@ use Rattle.std.specs.Prelude.{◌≡◌, ℕ, ◌^◌, Bool, true, ◌||◌, nat
 use Rattle.std.specs.declared.option.Option.{Option}
 use Rattle.std.specs.Io.KnownBytes.{Appends, Consumes, Keeps}
 use Rattle.sc_outside.specs.Outside.{AppendsFront}
-use Rattle.sc_item.specs.declared.item.Item.{Item}
+use Rattle.sc_fixed.specs.declared.item.Item.{Item}
 use Rattle.sc_outside.specs.Lines.{lines_to_read}
 use Rattle.sc_page.specs.Order.{default_order}
 use Rattle.sc_page.specs.Page.{every_item, bare_page_text, IsFlatPage}

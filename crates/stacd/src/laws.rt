@@ -1,5 +1,5 @@
 ghost use Rattle.std.specs.Prelude.{◌≡◌, ℕ, List};
-ghost use Rattle.sc_item.specs.declared.item.Item.{Item};
+ghost use Rattle.sc_fixed.specs.declared.item.Item.{Item};
 ghost use Rattle.stacd.specs.Lines.{AreItems, IsFirstBad};
 ghost use Rattle.stacd.specs.Page.{IsAnswer};
 

@@ -1,0 +1,5 @@
+pub mod Quotes
+pub mod Lines
+pub mod Items
+pub mod Repeats
+pub mod Apart

@@ -1,0 +1,4 @@
+pub mod Line
+pub mod Time
+pub mod Item
+pub mod Names
