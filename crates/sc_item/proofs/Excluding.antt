@@ -1,8 +1,7 @@
 -- A tree that is an item has no fault.
-use Rattle.std.proofs.Common.{◌≡◌, ℕ, ℤ, ◌+◌, ◌≤◌, ◌<◌, Bool, true, false, ◌||◌, ◌&&◌, not, List, [], ◌∷◌, ◌++◌, length, map, Option, Some, None, Result, Ok, Err, refl, ap, sym, subst, ◌∙◌, arith, nat_lt}
-use Rattle.std.specs.Prelude.{All, is_none, IfOk, IsUtf8}
+use Rattle.std.proofs.Common.{◌≡◌, ℕ, ◌≤◌, Bool, true, false, ◌||◌, ◌&&◌, not, List, [], ◌∷◌, ◌++◌, length, map, Option, Some, None, Err, refl, ap, sym, subst, ◌∙◌, arith, nat_lt}
+use Rattle.std.specs.Prelude.{All, is_none}
 use Rattle.std.specs.List.{list_any}
-use Rattle.std.specs.Ordering.{int_eq}
 use Rattle.std.proofs.lemmas.Bool.Decides.{nat_tests, Decides-int_eq}
 use Rattle.std.proofs.lemmas.List.{map-append, length-map}
 use Rattle.std.proofs.lemmas.List.Elements.{All-head, All-tail}
@@ -10,31 +9,29 @@ use Rattle.sc_json.specs.declared.tree.Json.{Json}
 use Rattle.sc_json.specs.declared.fault.JsonFault.{JsonFault}
 use Rattle.sc_json.specs.declared.fault.JsonFault.TheVariants as json
 use Rattle.sc_json.specs.Faults as texts
-use Rattle.sc_json.specs.Spells.{Spells}
 use Rattle.sc_json.specs.Member.{member_value}
 use Rattle.sc_json.proofs.Answered.{fault_excludes}
 use Rattle.sc_geom.specs.declared.point.Pt.{Pt}
 use Rattle.sc_geom.specs.declared.fault.GeomFault.{GeomFault}
 use Rattle.sc_geom.specs.declared.fault.GeomFault.TheVariants as geometry
-use Rattle.sc_geom.specs.Shapes.{Shapes, joined, rings_of, positions_of, map_shapes, last_behind}
-use Rattle.sc_geom.specs.Sketch.{Sketch, place_at, differ, is_same, is_open, has_open_ring, leaves_world}
+use Rattle.sc_geom.specs.Shapes.{Shapes, joined, positions_of, map_shapes, last_behind}
+use Rattle.sc_geom.specs.Sketch.{differ, is_open, has_open_ring, leaves_world}
 use Rattle.sc_geom.specs.Geometry.{IsGeometry, IsRing}
 use Rattle.sc_geom.specs.Answers.{GeomOf, count_of}
 use Rattle.sc_geom.proofs.Depicting.{one_sketch}
 use Rattle.sc_geom.proofs.Finished.{map_joined}
 use Rattle.sc_item.specs.declared.fault.ItemFault.{ItemFault}
 use Rattle.sc_item.specs.declared.fault.ItemFault.TheVariants.{NotAFeature, BadId, WrongCollection, BadTime, BadGeometry, OutOfMemory}
-use Rattle.sc_item.specs.declared.parts.Parts.{Parts}
 use Rattle.sc_item.specs.declared.times.Times.{Times}
-use Rattle.sc_item.specs.Words.{geometry_name, collection_name}
-use Rattle.sc_item.specs.Trees.{is_null, text_member}
+use Rattle.sc_item.specs.Words.{geometry_name}
+use Rattle.sc_item.specs.Trees.{is_null}
 use Rattle.sc_item.specs.Times.{times_in}
 use Rattle.sc_item.specs.Shape.{IsShape, IsShapeFault, IsGeometryFault, Shaped}
 use Rattle.sc_item.specs.Feature.{Feature}
-use Rattle.sc_item.specs.Reading.{IsFeature, IsId, Belongs, IsItem, IsFault, Answers}
-use Rattle.sc_item.specs.Line.{TellsCollection, IsLine}
+use Rattle.sc_item.specs.Reading.{IsFeature, IsId, Belongs, IsItem, IsFault}
+use Rattle.sc_item.specs.Line.{IsLine}
 use Rattle.sc_item.specs.Memory.{is_memory, is_text_memory}
-use Rattle.sc_item.proofs.Lines.{one_shapes, one_value, one_id}
+use Rattle.sc_item.proofs.Lines.{one_shapes, one_value}
 
 -- ---- geometries
 

@@ -9,7 +9,7 @@ use Rattle.sc_json.specs.declared.tree.Member.{Member}
 use Rattle.sc_json.specs.Grammar.{member}
 use Rattle.sc_json.specs.Good.{depth, Good}
 use Rattle.sc_json.specs.Member.{value_in, members_of, member_value}
-use Rattle.sc_json.proofs.GoodTrees.{GoodAt, GoodMembers, good_object, object_good, members_push, good_text}
+use Rattle.sc_json.proofs.GoodTrees.{GoodAt, good_object, object_good, members_push, good_text}
 use Rattle.sc_item.specs.Words.{collection_name, properties_name}
 use Rattle.sc_item.specs.Trees.{extended, extended_in, with_member, with_collection, members_in, members_of_value, properties_in}
 use Rattle.sc_item.proofs.Members.{no_name}

@@ -1,7 +1,6 @@
 -- What a good patch makes of a good tree is good.
-use Rattle.std.proofs.Common.{◌≡◌, ◌≢◌, ◌⊎◌, inl, inr, ℕ, zero, suc, ◌≤◌, ◌<◌, ◌+◌, Bool, true, false, cond, ◌||◌, List, [], ◌∷◌, ◌++◌, length, get_or, Option, Some, None, refl, ap, sym, subst, ◌∙◌, arith, append_assoc, append-nil, IsUtf8}
+use Rattle.std.proofs.Common.{◌≡◌, ◌≢◌, ◌⊎◌, inl, inr, ℕ, zero, suc, ◌≤◌, ◌<◌, Bool, true, false, cond, ◌||◌, List, [], ◌∷◌, ◌++◌, length, get_or, Some, refl, ap, sym, subst, ◌∙◌, arith, append_assoc, append-nil, IsUtf8}
 use Rattle.std.specs.Prelude.{nat_eq, Result, Ok, Err, IfOk}
-use Rattle.std.specs.List.{list_any, AllByRecursion}
 use Rattle.std.specs.Cmp.Lexicographic.{pointwise, same_text, nat_list_eq_equiv}
 use Rattle.std.proofs.lemmas.List.Folds.{list_any-append}
 use Rattle.sc_json.specs.declared.tree.Json.{Json}
@@ -11,11 +10,11 @@ use Rattle.sc_json.specs.declared.tree.Json.TheOpen.{Json-F, Member-F}
 use Rattle.sc_json.specs.declared.tree.Json.TheViews.{out-Json, roll-Json, roll-out-Json, roll-out-Member, out-roll-Member}
 use Rattle.sc_json.specs.declared.tree.Member.{Member, out-Member}
 use Rattle.sc_json.specs.Grammar.{member}
-use Rattle.sc_json.specs.Good.{Good, NamesDiffer}
+use Rattle.sc_json.specs.Good.{Good}
 use Rattle.sc_json.specs.Names.{has_name}
 use Rattle.sc_json.specs.Member.{value_in, members_of}
 use Rattle.sc_json.proofs.GoodTrees.{GoodAt, GoodValue, GoodMembers, good_object, object_good, members_push, good_null}
-use Rattle.sc_item.specs.Trees.{is_named, is_null, is_object, object_in, members_in}
+use Rattle.sc_item.specs.Trees.{is_named, is_object, object_in, members_in}
 use Rattle.sc_item.specs.Patch.{Patched, replaced, merged, Leaves, same, removed, changed, AreKept, none_kept, one_kept, Adds, known, nothing, new, AreAdded, none_added, one_added}
 use Rattle.sc_item.proofs.Extending.{at_good, good_at}
 

@@ -1,13 +1,13 @@
 -- What a patch leaves and adds, member by member.
-use Rattle.std.proofs.Common.{◌≡◌, ℕ, List, [], ◌∷◌, ◌++◌, refl, ap, sym, subst, ◌∙◌, append_assoc, append-nil}
-use Rattle.std.proofs.Common.{Bool, true, false, take, length, ◌+◌, ◌<◌, ◌≤◌, get_or}
+use Rattle.std.proofs.Common.{◌≡◌, ℕ, List, [], ◌∷◌, ◌++◌, ap, sym, subst, ◌∙◌, append_assoc, append-nil}
+use Rattle.std.proofs.Common.{true, false, take, length, ◌+◌, ◌<◌, ◌≤◌, get_or}
 use Rattle.std.specs.Prelude.{Result, Ok, Err, IfOk}
 use Rattle.std.proofs.lemmas.List.{take_more, take_all}
 use Rattle.sc_json.specs.declared.tree.Json.{Json}
 use Rattle.sc_json.specs.declared.tree.Json.TheVariants as trees
 use Rattle.sc_json.specs.declared.tree.Json.TheOpen as layer
 use Rattle.sc_json.specs.declared.tree.Json.TheOpen.{Json-F}
-use Rattle.sc_json.specs.declared.tree.Json.TheViews.{out-Json, roll-out-Member, roll-Member}
+use Rattle.sc_json.specs.declared.tree.Json.TheViews.{out-Json, roll-out-Member}
 use Rattle.sc_json.specs.Grammar.{member}
 use Rattle.sc_json.specs.Member.{members_of}
 use Rattle.sc_item.specs.Trees.{is_object, object_in, members_in}

@@ -1,5 +1,5 @@
 -- An item as contracts see it: a GeoJSON Feature (RFC 7946 §3.2) of a collection, with an id and a time.
-use Rattle.std.specs.Prelude.{◌≡◌, ℕ, ℤ, ◌≤ℤ◌, List, Option, Some, None}
+use Rattle.std.specs.Prelude.{◌≡◌, ℕ, ℤ, List, Option, Some, None}
 use Rattle.sc_json.specs.declared.tree.Json.{Json}
 use Rattle.sc_json.specs.Compact.{compact}
 use Rattle.sc_json.specs.Good.{Good}

@@ -1,5 +1,5 @@
 -- What a patch makes of a tree: JSON merge patch (RFC 7396 §2), and the order of the members.
-use Rattle.std.specs.Prelude.{◌≡◌, ℕ, List, [], ◌∷◌, ◌++◌, true, false, Option, Some, None}
+use Rattle.std.specs.Prelude.{◌≡◌, List, [], ◌∷◌, ◌++◌, true, false, Some, None}
 use Rattle.sc_json.specs.declared.tree.Json.{Json}
 use Rattle.sc_json.specs.declared.tree.Json.TheVariants.{Null, Object}
 use Rattle.sc_json.specs.declared.tree.Member.{Member, out-Member}

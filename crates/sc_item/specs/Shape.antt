@@ -1,5 +1,5 @@
 -- The geometry of an item (RFC 7946 §3.2): null, or a geometry of at most 10,000 positions.
-use Rattle.std.specs.Prelude.{◌≡◌, ℕ, ◌≤◌, true, false, Option, Some, None, Result, Ok, Err}
+use Rattle.std.specs.Prelude.{◌≡◌, ◌≤◌, true, false, Option, Some, None, Result, Ok, Err}
 use Rattle.sc_json.specs.declared.tree.Json.{Json}
 use Rattle.sc_geom.specs.declared.point.Pt.{Pt}
 use Rattle.sc_geom.specs.declared.fault.GeomFault.{GeomFault}

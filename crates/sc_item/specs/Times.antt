@@ -1,5 +1,5 @@
 -- The time of an item by its members `datetime`, `start_datetime` and `end_datetime`.
-use Rattle.std.specs.Prelude.{ℕ, ℤ, int_le, Bool, true, false, ◌&&◌, if◌then◌else◌, List, Option, Some, None, Result, Ok, Err}
+use Rattle.std.specs.Prelude.{ℤ, int_le, Bool, true, false, ◌&&◌, if◌then◌else◌, Option, Some, None, Result, Ok, Err}
 use Rattle.sc_json.specs.declared.tree.Json.{Json}
 use Rattle.sc_json.specs.declared.tree.Json.TheOpen as layer
 use Rattle.sc_json.specs.declared.tree.Json.TheOpen.{Json-F}

@@ -1,7 +1,6 @@
 use Rattle.std.proofs.Common.{rules, ◌≡◌, Some}
 use Rattle.sc_item.specs.Times.{times_in}
-use Rattle.sc_item.specs.Reading.{IsFeature, IsId, Belongs}
-use Rattle.sc_item.specs.Words.{geometry_name}
+use Rattle.sc_item.specs.Reading.{Belongs}
 use Rattle.sc_item.proofs.Excluding.{shape_fault}
 use Rattle.sc_item.proofs.parts.parts_of.Goals as goal
 

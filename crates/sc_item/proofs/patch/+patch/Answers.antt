@@ -1,11 +1,11 @@
-use Rattle.std.proofs.Common.{rules, ℕ, subst, ◌≡◌, List, [], ◌∷◌, ◌++◌, true, false, Some, None, refl, ap, sym, ◌∙◌, append-nil, arith, take}
+use Rattle.std.proofs.Common.{rules, ℕ, subst, ◌≡◌, List, [], ◌∷◌, ◌++◌, true, false, Some, None, ap, sym, ◌∙◌, append-nil, arith}
 use Rattle.std.proofs.lemmas.Grind.{common_steps}
 use Rattle.sc_json.specs.declared.tree.Member.{Member, out-Member}
 use Rattle.sc_json.specs.Grammar.{member}
 use Rattle.sc_json.specs.Names.{has_name}
 use Rattle.sc_json.specs.Member.{value_in}
 use Rattle.sc_item.specs.Trees.{is_null, is_object}
-use Rattle.sc_item.specs.Patch.{Patched, AreKept, none_kept, AreAdded, none_added, same, removed, changed, known, nothing, new, replaced}
+use Rattle.sc_item.specs.Patch.{Patched, none_kept, none_added, same, removed, changed, known, nothing, new}
 use Rattle.sc_item.proofs.Patches.{made, merged_from, kept_more, added_more, all_kept, copied}
 use Rattle.sc_item.proofs.patch.+patch.Goals as goal
 
