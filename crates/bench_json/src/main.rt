@@ -54,6 +54,10 @@ fn main(rt: HostRuntime) -> anyhow::Result<()> {
     let alloc = rt.alloc();
     let mut bytes = Vec::new(alloc);
     rt.reader().read_to_end(&mut bytes)?;
+    // Nothing is measured of nothing.
+    if bytes.is_empty() {
+        return Ok(());
+    }
     if env::args(&rt)?.count() > 1 {
         return hold(&rt, bytes.as_slice());
     }

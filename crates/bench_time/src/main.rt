@@ -53,6 +53,10 @@ fn main(rt: HostRuntime) -> anyhow::Result<()> {
     let alloc = rt.alloc();
     let mut bytes = Vec::new(alloc);
     rt.reader().read_to_end(&mut bytes)?;
+    // Nothing is measured of nothing.
+    if bytes.is_empty() {
+        return Ok(());
+    }
     let mut texts = Vec::new(alloc);
     for text in bytes.as_slice().split(|byte| *byte == b'\n') {
         if !text.is_empty() {
