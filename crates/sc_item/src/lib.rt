@@ -10,6 +10,8 @@ mod parts;
 mod patch;
 mod read;
 mod shape;
+#[cfg(test)]
+mod tests;
 mod times;
 mod trees;
 mod whole;
