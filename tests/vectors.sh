@@ -7,6 +7,6 @@ if ! command -v python3 >/dev/null; then
     exit 0
 fi
 ./stacd page 1 </dev/null >/dev/null
-python3 tests/runs.py crates/stacd/out/stacd tests/vectors/page-fixed
+python3 tests/runs.py crates/stacd/out/stacd tests/vectors/page
 (cd crates/probe && rt run >/dev/null)
 python3 tests/parts.py crates/probe/out/probe tests/vectors/*.txt

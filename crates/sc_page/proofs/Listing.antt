@@ -1,7 +1,7 @@
 -- What a sort leaves is the listing of the items, and there is one.
 use Rattle.std.proofs.Common.{◌≡◌, ◌≢◌, ℕ, ◌<◌, Bool, true, false, cond, eqb, ⊎_elim, ◌⊎◌, inl, inr, suc, zero, List, [], ◌∷◌, length, get_or, filter, take, Ordering, refl, sym, ◌∙◌, ap, subst, arith, rules}
 use Rattle.std.specs.declared.cmp.Ordering.TheVariants.{Less, Equal, Greater}
-use Rattle.std.specs.Ordering.{is_lt, nat_cmp, ordering_then, ordering_reverse}
+use Rattle.std.specs.Ordering.{is_lt, nat_cmp, int_cmp, ordering_then, ordering_reverse}
 use Rattle.std.specs.Cmp.{IsTotalOrder}
 use Rattle.std.specs.Cmp.Rules.{comparing}
 use Rattle.std.specs.List.{AllPairs, Contains, swap}
@@ -12,10 +12,10 @@ use Rattle.std.proofs.lemmas.Bool.Decides.{nat_tests}
 use Rattle.std.proofs.lemmas.List.Sorted.{ranks_by, sorted_far, IsPermutation-keeps, IsPermutation-sym, Contains-permutation}
 use Rattle.std.proofs.lemmas.List.Edits.{swapped_from_swap, Swapped, length-swap}
 use Rattle.sc_base.specs.Text.{text_order}
-use Rattle.sc_fixed.specs.declared.item.Item.{Item}
-use Rattle.sc_fixed.specs.Names.{HaveOneName, AreApart}
+use Rattle.sc_item.specs.Feature.{Feature}
+use Rattle.sc_item.specs.Names.{HaveOneName, AreApart}
 use Rattle.sc_page.specs.Page.{every_item, IsFlatPage}
-use Rattle.sc_page.specs.Order.{time_order, default_order, IsItemOrder, IsListing}
+use Rattle.sc_page.specs.Order.{default_order, IsItemOrder, IsListing}
 
 pub default_total : IsTotalOrder default_order
 default_total = search (comparing, rules) depth 12
@@ -38,9 +38,9 @@ text_tie (x ∷ xs) (y ∷ ys) e =
     let u : xs ≡ ys = text_tie xs ys t.1 in
     cc
 
-pub tie_has_one_name : (a b : Item) → default_order a b ≡ Equal → HaveOneName a b
+pub tie_has_one_name : (a b : Feature) → default_order a b ≡ Equal → HaveOneName a b
 tie_has_one_name a b e =
-    let t = then_equal (time_order b.time a.time) (ordering_then (text_order a.collection b.collection) (text_order a.id b.id)) e in
+    let t = then_equal (int_cmp b.start a.start) (ordering_then (text_order a.collection b.collection) (text_order a.id b.id)) e in
     let u = then_equal (text_order a.collection b.collection) (text_order a.id b.id) t.1 in
     (text_tie _ _ u.0, text_tie _ _ u.1)
 
@@ -48,10 +48,10 @@ pub default_item_order : IsItemOrder default_order
 default_item_order = record { total = default_total; ties = tie_has_one_name }
 
 -- at each two places
-abbrev ApartAt : List Item → Type 0
-ApartAt items = (i j : ℕ) (d : Item) → i < length items → j < length items → i ≢ j → ¬ HaveOneName (get_or items i d) (get_or items j d)
+abbrev ApartAt : List Feature → Type 0
+ApartAt items = (i j : ℕ) (d : Feature) → i < length items → j < length items → i ≢ j → ¬ HaveOneName (get_or items i d) (get_or items j d)
 
-apart_at : (items : List Item) → AreApart items → ApartAt items
+apart_at : (items : List Feature) → AreApart items → ApartAt items
 apart_at items apart i j d li lj ne h =
     ⊎_elim (λ l. apart i j d l lj h) (λ l. apart j i d (omega arith) li (sym h.0, sym h.1)) (cases_lt i j)
 
@@ -65,7 +65,7 @@ place_apart i j m n ne = grind (arith, nat_tests)
 place_within : (i j m len : ℕ) → i < len → j < len → m < len → place i j m < len
 place_within i j m len li lj lm = grind (arith, nat_tests)
 
-place_read : (l : List Item) (i j : ℕ) → i < length l → j < length l → (m : ℕ) (d : Item) → get_or (swap l i j) m d ≡ get_or l (place i j m) d
+place_read : (l : List Feature) (i j : ℕ) → i < length l → j < length l → (m : ℕ) (d : Feature) → get_or (swap l i j) m d ≡ get_or l (place i j m) d
 place_read l i j li lj m d =
     let s = swapped_from_swap l (swap l i j) i j d li lj refl in
     by (eqb m i) (eqb m j) refl refl s
@@ -75,21 +75,21 @@ place_read l i j li lj m d =
     by false true e f s = let h : m ≡ j = grind (arith, nat_tests) in subst (λ k. get_or (swap l i j) k d ≡ get_or l i d) (sym h) s.1
     by false false e f s = s.2 m (λ h. grind (arith, nat_tests)) (λ h. grind (arith, nat_tests))
 
-apart_at-swap : (l : List Item) (i j : ℕ) → i < length l → j < length l → ApartAt l → ApartAt (swap l i j)
+apart_at-swap : (l : List Feature) (i j : ℕ) → i < length l → j < length l → ApartAt l → ApartAt (swap l i j)
 apart_at-swap l i j li lj apart m n d lm ln ne h =
     let km : m < length l = subst (λ x. m < x) (length-swap l i j) lm in
     let kn : n < length l = subst (λ x. n < x) (length-swap l i j) ln in
     apart (place i j m) (place i j n) d (place_within i j m _ li lj km) (place_within i j n _ li lj kn) (place_apart i j m n ne)
     (subst2' (place_read l i j li lj m d) (place_read l i j li lj n d) h)
   where
-    subst2' : {a b x y : Item} → a ≡ x → b ≡ y → HaveOneName a b → HaveOneName x y
+    subst2' : {a b x y : Feature} → a ≡ x → b ≡ y → HaveOneName a b → HaveOneName x y
     subst2' e f g = (ap (λ t. t.collection) (sym e) ∙ g.0 ∙ ap (λ t. t.collection) f, ap (λ t. t.id) (sym e) ∙ g.1 ∙ ap (λ t. t.id) f)
 
-module _ (order : Item → Item → Ordering) (o : IsItemOrder order) where
-  abbrev IsBefore : Item → Item → Type 0
+module _ (order : Feature → Feature → Ordering) (o : IsItemOrder order) where
+  abbrev IsBefore : Feature → Feature → Type 0
   IsBefore a b = order a b ≡ Less
 
-  pub listing_from_sort : (xs ys : List Item) → IsPermutation xs ys → IsSortedBy (λ x y. is_lt (order x y)) ys → AreApart xs → IsListing order xs ys
+  pub listing_from_sort : (xs ys : List Feature) → IsPermutation xs ys → IsSortedBy (λ x y. is_lt (order x y)) ys → AreApart xs → IsListing order xs ys
   listing_from_sort xs ys p up apart = record {
     same = p;
     ordered = λ i j d l lj.
@@ -100,36 +100,36 @@ module _ (order : Item → Item → Ordering) (o : IsItemOrder order) where
         before (order b a) a b refl far (at j i d lj (omega arith) (omega arith));
   }
     where
-      before : (o : Ordering) (a b : Item) → order b a ≡ o → is_lt o ≡ false → ¬ HaveOneName b a → order a b ≡ Less
+      before : (o : Ordering) (a b : Feature) → order b a ≡ o → is_lt o ≡ false → ¬ HaveOneName b a → order a b ≡ Less
       before Less a b e f n = cc
       before Equal a b e f n = absurd (n (o.ties b a e))
       before Greater a b e f n = o.total.antisymm a b ∙ ap ordering_reverse e
 
-  not_both : (a b : Item) → IsBefore a b → IsBefore b a → ⊥
+  not_both : (a b : Feature) → IsBefore a b → IsBefore b a → ⊥
   not_both a b p q = let e : Less ≡ Greater = sym p ∙ o.total.antisymm a b ∙ ap ordering_reverse q in cc
 
-  first_is_in : (x : Item) (xs : List Item) → Contains (x ∷ xs) x
+  first_is_in : (x : Feature) (xs : List Feature) → Contains (x ∷ xs) x
   first_is_in x xs = (0, omega arith, refl)
 
-  later_is_in : (x : Item) (xs : List Item) (z : Item) → Contains xs z → Contains (x ∷ xs) z
+  later_is_in : (x : Feature) (xs : List Feature) (z : Feature) → Contains xs z → Contains (x ∷ xs) z
   later_is_in x xs z (k, lt, e) = (suc k, omega arith, e)
 
   -- what a list has is its first or stands later
-  which : (x : Item) (xs : List Item) (z : Item) → Contains (x ∷ xs) z → (x ≡ z) ⊎ Contains xs z
+  which : (x : Feature) (xs : List Feature) (z : Feature) → Contains (x ∷ xs) z → (x ≡ z) ⊎ Contains xs z
   which x xs z (zero, lt, e) = inl e
   which x xs z (suc k, lt, e) = inr (k, omega arith, e)
 
-  first_before : (x : Item) (xs : List Item) (z : Item) → AllPairs IsBefore (x ∷ xs) → Contains xs z → IsBefore x z
+  first_before : (x : Feature) (xs : List Feature) (z : Feature) → AllPairs IsBefore (x ∷ xs) → Contains xs z → IsBefore x z
   first_before x xs z up (k, lt, e) = subst (λ t. IsBefore x t) e (up 0 (suc k) z (omega arith) (omega arith))
 
-  rest_ordered : (x : Item) (xs : List Item) → AllPairs IsBefore (x ∷ xs) → AllPairs IsBefore xs
+  rest_ordered : (x : Feature) (xs : List Feature) → AllPairs IsBefore (x ∷ xs) → AllPairs IsBefore xs
   rest_ordered x xs up i j d l lj = up (suc i) (suc j) d (omega arith) (omega arith)
 
-  nothing_in : (z : Item) → Contains [] z → ⊥
+  nothing_in : (z : Feature) → Contains [] z → ⊥
   nothing_in z (k, lt, e) = absurd (omega arith)
 
   -- two ordered lists of the same items are one
-  same_order : (ys zs : List Item) → AllPairs IsBefore ys → AllPairs IsBefore zs → ((w : Item) → Contains ys w → Contains zs w) → ((w : Item) → Contains zs w → Contains ys w) → ys ≡ zs
+  same_order : (ys zs : List Feature) → AllPairs IsBefore ys → AllPairs IsBefore zs → ((w : Feature) → Contains ys w → Contains zs w) → ((w : Feature) → Contains zs w → Contains ys w) → ys ≡ zs
   same_order [] [] p q f g = refl
   same_order [] (z ∷ zs) p q f g = absurd (nothing_in z (g z (first_is_in z zs)))
   same_order (y ∷ ys) [] p q f g = absurd (nothing_in y (f y (first_is_in y ys)))
@@ -145,24 +145,24 @@ module _ (order : Item → Item → Ordering) (o : IsItemOrder order) where
       heads (inr a) (inl e) = e
       heads (inr a) (inr b) = absurd (not_both y z (first_before y ys z p b) (first_before z zs y q a))
 
-      tail : (a b : Item) (us vs : List Item) (w : Item) → AllPairs IsBefore (a ∷ us) → a ≡ b → Contains us w → (b ≡ w) ⊎ Contains vs w → Contains vs w
+      tail : (a b : Feature) (us vs : List Feature) (w : Feature) → AllPairs IsBefore (a ∷ us) → a ≡ b → Contains us w → (b ≡ w) ⊎ Contains vs w → Contains vs w
       tail a b us vs w up e m (inl h) = let before = subst (λ t. IsBefore a t) (sym (e ∙ h)) (first_before a us w up m) in absurd (not_both a a before before)
       tail a b us vs w up e m (inr c) = c
 
   -- items have one listing
-  pub one_listing : (xs ys zs : List Item) → IsListing order xs ys → IsListing order xs zs → ys ≡ zs
+  pub one_listing : (xs ys zs : List Feature) → IsListing order xs ys → IsListing order xs zs → ys ≡ zs
   one_listing xs ys zs a b =
       same_order ys zs a.ordered b.ordered
       (λ w m. Contains-permutation xs zs w b.same (Contains-permutation ys xs w (IsPermutation-sym xs ys a.same) m))
       (λ w m. Contains-permutation xs ys w a.same (Contains-permutation zs xs w (IsPermutation-sym xs zs b.same) m))
 
 -- no item is left out
-pub filter_every : (xs : List Item) → filter every_item xs ≡ xs
+pub filter_every : (xs : List Feature) → filter every_item xs ≡ xs
 filter_every [] = refl
 filter_every (x ∷ xs) = ap (λ t. x ∷ t) (filter_every xs)
 
 -- what is cut from the listing of all the items is their page
-pub page_from_listing : (limit : ℕ) (xs ys page : List Item) → IsListing default_order xs ys → page ≡ take limit ys → IsFlatPage every_item default_order limit xs page
+pub page_from_listing : (limit : ℕ) (xs ys page : List Feature) → IsListing default_order xs ys → page ≡ take limit ys → IsFlatPage every_item default_order limit xs page
 page_from_listing limit xs ys page l e = record {
   listed = ys;
   is_listing = subst (λ t. IsListing default_order t ys) (sym (filter_every xs)) l;
@@ -170,6 +170,6 @@ page_from_listing limit xs ys page l e = record {
 }
 
 -- items have one page
-pub one_page : (wanted : Item → Bool) (order : Item → Item → Ordering) (limit : ℕ) → IsItemOrder order → (items a b : List Item) → IsFlatPage wanted order limit items a → IsFlatPage wanted order limit items b → a ≡ b
+pub one_page : (wanted : Feature → Bool) (order : Feature → Feature → Ordering) (limit : ℕ) → IsItemOrder order → (items a b : List Feature) → IsFlatPage wanted order limit items a → IsFlatPage wanted order limit items b → a ≡ b
 one_page wanted order limit o items a b p q =
     p.cut ∙ ap (take limit) (one_listing order o (filter wanted items) p.listed q.listed p.is_listing q.is_listing) ∙ sym q.cut

@@ -1,35 +1,37 @@
 ghost use Rattle.std.specs.Prelude.{◌≡◌, IfOk};
-ghost use Rattle.sc_fixed.specs.Names.{AreApart};
-ghost use Rattle.sc_page.specs.Order.{time_order, name_order, default_order, IsListing};
+ghost use Rattle.std.specs.Ordering.{int_cmp};
+ghost use Rattle.sc_item.specs.Names.{AreApart};
+ghost use Rattle.sc_page.specs.Order.{name_order, default_order, IsListing};
 
-use sc_fixed::{DateTime, Item};
+use sc_item::Item;
+use sc_time::Instant;
 use std::alloc::AllocError;
 use std::cmp::Ordering;
 
-/// Which of two times is earlier.
-fn compare_times(a: &DateTime, b: &DateTime) -> Ordering
-    ensures { result ≡ time_order a.now b.now }
+/// Which of two instants is earlier.
+fn compare_instants(a: Instant, b: Instant) -> Ordering
+    ensures { result ≡ int_cmp a b }
 {
-    a.cmp(b)
+    a.nanoseconds().cmp(&b.nanoseconds())
 }
 
 /// Which of two items has the lesser collection, or in one collection the lesser id.
 fn compare_names(a: &Item, b: &Item) -> Ordering
     ensures { result ≡ name_order a.now b.now }
 {
-    match a.collection.cmp(&b.collection) {
+    match a.collection().cmp(b.collection()) {
         Ordering::Less => Ordering::Less,
-        Ordering::Equal => a.id.cmp(&b.id),
+        Ordering::Equal => a.id().cmp(b.id()),
         Ordering::Greater => Ordering::Greater,
     }
 }
 
-/// Which of two items stands first on a page: the later one, then the one of the lesser collection, then of the lesser id.
+/// Which of two items stands first on a page: the one that starts later, then the one of the lesser collection, then of the lesser id.
 pub fn compare_items(a: &Item, b: &Item) -> Ordering
     ensures { result ≡ default_order a.now b.now }
 {
-    // The names are compared only where the times are equal.
-    match compare_times(&b.time, &a.time) {
+    // The names are compared only where the starts are equal.
+    match compare_instants(b.start(), a.start()) {
         Ordering::Less => Ordering::Less,
         Ordering::Equal => compare_names(a, b),
         Ordering::Greater => Ordering::Greater,

@@ -1,11 +1,11 @@
 ghost use Rattle.std.specs.Prelude.{◌≡◌, ◌++◌, ◌∷◌, IfOk, OnOk, flat_map, string_bytes};
-ghost use Rattle.sc_fixed.specs.Names.{AreApart};
+ghost use Rattle.sc_item.specs.Names.{AreApart};
 ghost use Rattle.sc_page.specs.Order.{default_order};
 ghost use Rattle.sc_page.specs.Page.{documents, page_start, page_middle, page_end, bare_page_text, every_item, IsFlatPage};
 
 use crate::order::listed;
 use sc_base::{Seq, Text};
-use sc_fixed::Item;
+use sc_item::Item;
 use std::alloc::{AllocError, Global};
 
 #[tactic(auto, unfolding(crate::specs::Page::page_start))]
@@ -35,7 +35,7 @@ fn push_more(text: &mut String, items: &[Item]) -> Result<(), AllocError>
 {
     for item in items {
         text.push(',')?;
-        text.push_str(item.doc.as_str())?;
+        text.push_str(item.doc().as_str())?;
     }
     Ok(())
 }
@@ -47,7 +47,7 @@ fn push_documents(text: &mut String, items: &[Item]) -> Result<(), AllocError>
     let Some((first, rest)) = items.split_first() else {
         return Ok(());
     };
-    text.push_str(first.doc.as_str())?;
+    text.push_str(first.doc().as_str())?;
     push_more(text, rest)?;
     Ok(())
 }

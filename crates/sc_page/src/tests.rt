@@ -1,39 +1,35 @@
-use crate::{Seq, Text, flat_page, page_text};
-use sc_fixed::{DateTime, Item, first_repeat};
+use crate::{Seq, flat_page, page_text};
+use sc_item::{Item, first_repeat, read_line};
 use std::alloc::{AllocError, Global};
 use std::test::Fail;
 
-/// An item at a day of January 2024, with its id as its document.
-fn item(alloc: Global, id: &str, day: u8) -> Result<Item, AllocError> {
-    Ok(Item {
-        collection: Text::from_str(alloc, "s2")?,
-        id: Text::from_str(alloc, id)?,
-        time: DateTime {
-            year: 2024,
-            month: 1,
-            day,
-            hour: 0,
-            minute: 0,
-            second: 0,
-        },
-        doc: Text::from_str(alloc, id)?,
-    })
+/// The items of lines.
+fn items(alloc: Global, lines: &[&[u8]]) -> Result<Vec<Item>, AllocError> {
+    let mut items = Vec::new(alloc);
+    for line in lines {
+        if let Some(item) = read_line(alloc, line)? {
+            items.push(item)?;
+        }
+    }
+    Ok(items)
 }
 
 #[test]
 fn a_page_has_the_latest_items(rt: HostRuntime) -> Result<(), Fail> {
     let alloc = rt.alloc();
-    let mut items = Vec::new(alloc);
-    items.push(item(alloc, "z", 1)?)?;
-    items.push(item(alloc, "b", 2)?)?;
-    items.push(item(alloc, "a", 2)?)?;
+    let lines: [&[u8]; 3] = [
+        b"{\"type\":\"Feature\",\"collection\":\"s2\",\"id\":\"z\",\"geometry\":null,\"properties\":{\"datetime\":\"2024-01-01T00:00:00Z\"}}",
+        b"{\"type\":\"Feature\",\"collection\":\"s2\",\"id\":\"b\",\"geometry\":null,\"properties\":{\"datetime\":\"2024-01-02T00:00:00Z\"}}",
+        b"{\"type\":\"Feature\",\"collection\":\"s2\",\"id\":\"a\",\"geometry\":null,\"properties\":{\"datetime\":\"2024-01-02T00:00:00Z\"}}",
+    ];
+    let items = items(alloc, &lines)?;
     if let Some(_) = first_repeat(alloc, items.as_slice())? {
         panic!(rt; "two of the items have one name");
     }
     let page = flat_page(Seq::of(items), 2)?;
     assert_eq!(rt;
         page_text(alloc, page.as_slice())?.as_str(),
-        "{\"type\":\"FeatureCollection\",\"features\":[a,b],\"numberReturned\":2,\"links\":[]}"
+        "{\"type\":\"FeatureCollection\",\"features\":[{\"type\":\"Feature\",\"collection\":\"s2\",\"id\":\"a\",\"geometry\":null,\"properties\":{\"datetime\":\"2024-01-02T00:00:00Z\"}},{\"type\":\"Feature\",\"collection\":\"s2\",\"id\":\"b\",\"geometry\":null,\"properties\":{\"datetime\":\"2024-01-02T00:00:00Z\"}}],\"numberReturned\":2,\"links\":[]}"
     );
     Ok(())
 }

@@ -2,7 +2,7 @@
 use Rattle.std.proofs.Common.{◌≡◌, ℕ, ◌^◌, ◌<◌, ◌≤◌, Bool, true, false, ltb, ◌||◌, List, [], ◌∷◌, ◌++◌, length, refl, sym, ◌∙◌, ap, subst, arith}
 use Rattle.std.specs.declared.option.Option.{Option}
 use Rattle.std.proofs.lemmas.Bool.Decides.{nat_tests}
-use Rattle.sc_fixed.specs.declared.item.Item.{Item}
+use Rattle.sc_item.specs.Feature.{Feature}
 use Rattle.sc_outside.specs.Lines.{lines_to_read}
 use Rattle.sc_outside.proofs.Joined.{concat-lines_of}
 use Rattle.stacd.specs.Lines.{AreItems}
@@ -15,7 +15,7 @@ use Rattle.stacd.specs.declared.page.PageEnd.{PageEnd}
 use Rattle.stacd.specs.declared.page.PageEnd.TheVariants.{Done, BadLine, ReadFault, WriteFault, OutOfMemory}
 
 -- lines that are items have at most 2^28 bytes
-pub within : (bytes : List ℕ) (items : List Item) → AreItems (lines_to_read true bytes) items → length bytes ≤ 2 ^ 28
+pub within : (bytes : List ℕ) (items : List Feature) → AreItems (lines_to_read true bytes) items → length bytes ≤ 2 ^ 28
 within bytes items are = subst (λ t. length t ≤ 2 ^ 28) (concat-lines_of bytes) are.spelled.short
 
 past_limit : (ended : Bool) (n : ℕ) → 2 ^ 28 < n → (ended || ltb (2 ^ 28) n) ≡ true

@@ -5,24 +5,24 @@ use Rattle.std.specs.List.{AllZip, concat}
 use Rattle.std.proofs.lemmas.Bool.{cases_lt}
 use Rattle.std.proofs.lemmas.List.{length-append}
 use Rattle.sc_outside.specs.Lines.{lines_to_read, without_feed}
-use Rattle.sc_fixed.specs.declared.item.Item.{Item}
-use Rattle.sc_fixed.specs.Item.{IsItem}
-use Rattle.sc_fixed.specs.Names.{AreApart, IsFirstRepeat}
-use Rattle.sc_fixed.proofs.Items.{one_item}
-use Rattle.sc_fixed.proofs.Apart.{apart_front}
+use Rattle.sc_item.specs.Feature.{Feature}
+use Rattle.sc_item.specs.Line.{IsLine}
+use Rattle.sc_item.specs.Names.{AreApart, IsFirstRepeat}
+use Rattle.sc_item.proofs.Lines.{one_item}
+use Rattle.sc_item.proofs.Apart.{apart_front}
 use Rattle.stacd.specs.Lines.{AreSpelled, AreItems, StopAt, IsFirstBad}
 
-abbrev Spells : List ℕ → Item → Type 0
-Spells line item = IsItem (without_feed line) item
+abbrev Spells : List ℕ → Feature → Type 0
+Spells line item = IsLine (without_feed line) item
 
 -- what holds before each line
-pub record SoFar (all : Bool) (bytes rest : List ℕ) (items : List Item) : Type 0 where
+pub record SoFar (all : Bool) (bytes rest : List ℕ) (items : List Feature) : Type 0 where
   pub before : List (List ℕ)
   pub split : lines_to_read all bytes ≡ before ++ lines_to_read all rest
   pub whole : bytes ≡ concat before ++ rest
   pub are : AreSpelled before items
 
-zip_push : (lines : List (List ℕ)) (items : List Item) (line : List ℕ) (item : Item) → AllZip Spells lines items → Spells line item → AllZip Spells (lines ++ line ∷ []) (items ++ item ∷ [])
+zip_push : (lines : List (List ℕ)) (items : List Feature) (line : List ℕ) (item : Feature) → AllZip Spells lines items → Spells line item → AllZip Spells (lines ++ line ∷ []) (items ++ item ∷ [])
 zip_push [] [] line item z s = (s, tt)
 zip_push [] (i ∷ items) line item z s = absurd z
 zip_push (l ∷ ls) [] line item z s = absurd z
@@ -32,21 +32,21 @@ pub concat-append : (xs ys : List (List ℕ)) → concat (xs ++ ys) ≡ concat x
 concat-append [] ys = refl
 concat-append (x ∷ xs) ys = ap (λ t. x ++ t) (concat-append xs ys) ∙ sym (append_assoc x (concat xs) (concat ys))
 
-as_many : (lines : List (List ℕ)) (items : List Item) → AllZip Spells lines items → length items ≡ length lines
+as_many : (lines : List (List ℕ)) (items : List Feature) → AllZip Spells lines items → length items ≡ length lines
 as_many [] [] z = refl
 as_many [] (i ∷ is) z = absurd z
 as_many (l ∷ ls) [] z = absurd z
 as_many (l ∷ ls) (i ∷ items) z = let e = as_many ls items z.1 in omega arith
 
 -- the last of lines that spell items
-last_of : (lines : List (List ℕ)) (line : List ℕ) (items : List Item) → AllZip Spells (lines ++ line ∷ []) items → (item : Item) × Spells line item
+last_of : (lines : List (List ℕ)) (line : List ℕ) (items : List Feature) → AllZip Spells (lines ++ line ∷ []) items → (item : Feature) × Spells line item
 last_of [] line [] z = absurd z
 last_of [] line (i ∷ items) z = (i, z.0)
 last_of (l ∷ ls) line [] z = absurd z
 last_of (l ∷ ls) line (i ∷ items) z = last_of ls line items z.1
 
 -- lines spell one list of items
-pub one_list : (lines : List (List ℕ)) (xs ys : List Item) → AllZip Spells lines xs → AllZip Spells lines ys → xs ≡ ys
+pub one_list : (lines : List (List ℕ)) (xs ys : List Feature) → AllZip Spells lines xs → AllZip Spells lines ys → xs ≡ ys
 one_list [] [] [] p q = refl
 one_list [] [] (y ∷ ys) p q = absurd q
 one_list [] (x ∷ xs) ys p q = absurd p
@@ -65,10 +65,10 @@ so_far_start all bytes = record {
   are = record { each = tt; few = omega arith; short = omega arith };
 }
 
-pub so_far_end : (all : Bool) (bytes rest : List ℕ) (items : List Item) → SoFar all bytes rest items → lines_to_read all rest ≡ [] → AreSpelled (lines_to_read all bytes) items
+pub so_far_end : (all : Bool) (bytes rest : List ℕ) (items : List Feature) → SoFar all bytes rest items → lines_to_read all rest ≡ [] → AreSpelled (lines_to_read all bytes) items
 so_far_end all bytes rest items s e = subst (λ t. AreSpelled t items) (sym (s.split ∙ ap (λ t. s.before ++ t) e ∙ append-nil s.before)) s.are
 
-module _ (all : Bool) (bytes rest line after : List ℕ) (items : List Item) (s : SoFar all bytes rest items) (next : lines_to_read all rest ≡ line ∷ lines_to_read all after) (parts : rest ≡ line ++ after) where
+module _ (all : Bool) (bytes rest line after : List ℕ) (items : List Feature) (s : SoFar all bytes rest items) (next : lines_to_read all rest ≡ line ∷ lines_to_read all after) (parts : rest ≡ line ++ after) where
   count : length items ≡ length s.before
   count = as_many s.before items s.are.each
 
@@ -81,7 +81,7 @@ module _ (all : Bool) (bytes rest line after : List ℕ) (items : List Item) (s 
   size : length (concat (s.before ++ line ∷ [])) + length after ≡ length bytes
   size = sym (ap length whole' ∙ length-append (concat (s.before ++ line ∷ [])) after)
 
-  pub so_far_more : (item : Item) → Spells line item → length items < 1000000 → length bytes - length after ≤ 2 ^ 28 → SoFar all bytes after (items ++ item ∷ [])
+  pub so_far_more : (item : Feature) → Spells line item → length items < 1000000 → length bytes - length after ≤ 2 ^ 28 → SoFar all bytes after (items ++ item ∷ [])
   so_far_more item spelled few short = record {
     before = s.before ++ line ∷ [];
     split = s.split ∙ ap (λ t. s.before ++ t) next ∙ sym (append_assoc s.before (line ∷ []) (lines_to_read all after));
@@ -93,7 +93,7 @@ module _ (all : Bool) (bytes rest line after : List ℕ) (items : List Item) (s 
     };
   }
 
-  stop : ((more : List Item) → AreSpelled (s.before ++ line ∷ []) more → ⊥) → StopAt (lines_to_read all bytes) items
+  stop : ((more : List Feature) → AreSpelled (s.before ++ line ∷ []) more → ⊥) → StopAt (lines_to_read all bytes) items
   stop bad = record {
     before = s.before;
     line = line;
@@ -103,7 +103,7 @@ module _ (all : Bool) (bytes rest line after : List ℕ) (items : List Item) (s 
     bad = bad;
   }
 
-  pub stop_if_no_item : ((item : Item) → Spells line item → ⊥) → StopAt (lines_to_read all bytes) items
+  pub stop_if_no_item : ((item : Feature) → Spells line item → ⊥) → StopAt (lines_to_read all bytes) items
   stop_if_no_item none = stop (λ more are. let r = last_of s.before line more are.each in none r.0 r.1)
 
   pub stop_if_many : 1000000 ≤ length items → StopAt (lines_to_read all bytes) items
@@ -113,7 +113,7 @@ module _ (all : Bool) (bytes rest line after : List ℕ) (items : List Item) (s 
   stop_if_long long = stop (λ more are. absurd (omega (arith, size, long, are.short)))
 
 -- items of a front of the lines
-front_each : (before rest : List (List ℕ)) (items : List Item) → AllZip Spells (before ++ rest) items → (front : List Item) × (back : List Item) × (items ≡ front ++ back) × AllZip Spells before front
+front_each : (before rest : List (List ℕ)) (items : List Feature) → AllZip Spells (before ++ rest) items → (front : List Feature) × (back : List Feature) × (items ≡ front ++ back) × AllZip Spells before front
 front_each [] rest items z = ([], items, refl, tt)
 front_each (l ∷ ls) rest [] z = absurd z
 front_each (l ∷ ls) rest (i ∷ items) z =
@@ -121,7 +121,7 @@ front_each (l ∷ ls) rest (i ∷ items) z =
     (i ∷ r.0, r.1, (λ k. i ∷ r.2 k), (z.0, r.3))
 
 -- a front of lines that are items are items
-pub front_are : (before rest : List (List ℕ)) (items : List Item) → AreItems (before ++ rest) items → (front : List Item) × AreItems before front
+pub front_are : (before rest : List (List ℕ)) (items : List Feature) → AreItems (before ++ rest) items → (front : List Feature) × AreItems before front
 front_are before rest items a =
     let r = front_each before rest items a.spelled.each in (
       r.0,
@@ -136,7 +136,7 @@ front_are before rest items a =
     )
 
 -- lines with a first bad one aren't items
-pub bad_or_good : (lines : List (List ℕ)) (n : ℕ) (items : List Item) → IsFirstBad lines n → AreItems lines items → ⊥
+pub bad_or_good : (lines : List (List ℕ)) (n : ℕ) (items : List Feature) → IsFirstBad lines n → AreItems lines items → ⊥
 bad_or_good lines n items b a =
     let e : lines ≡ (b.before ++ b.line ∷ []) ++ b.after = b.place ∙ sym (append_assoc b.before (b.line ∷ []) b.after) in
     let f = front_are (b.before ++ b.line ∷ []) b.after items (subst (λ t. AreItems t items) e a) in
@@ -168,7 +168,7 @@ one_bad_line lines n m a b = by (cases_lt n m) (cases_lt m n)
     by (inr p) (inr q) = omega arith
 
 -- the lines before the item at a place, and its line
-record SplitAt (lines : List (List ℕ)) (items : List Item) (place : ℕ) : Type 0 where
+record SplitAt (lines : List (List ℕ)) (items : List Feature) (place : ℕ) : Type 0 where
   pub before : List (List ℕ)
   pub line : List ℕ
   pub after : List (List ℕ)
@@ -177,7 +177,7 @@ record SplitAt (lines : List (List ℕ)) (items : List Item) (place : ℕ) : Typ
   pub each : AllZip Spells before (take place items)
   pub upto : AllZip Spells (before ++ line ∷ []) (take (place + 1) items)
 
-split_at : (lines : List (List ℕ)) (items : List Item) (place : ℕ) → AllZip Spells lines items → place < length items → SplitAt lines items place
+split_at : (lines : List (List ℕ)) (items : List Feature) (place : ℕ) → AllZip Spells lines items → place < length items → SplitAt lines items place
 split_at [] [] place z lt = absurd (omega arith)
 split_at [] (i ∷ items) place z lt = absurd z
 split_at (l ∷ ls) [] place z lt = absurd z
@@ -195,7 +195,7 @@ split_at (l ∷ ls) (i ∷ items) (suc place) z lt =
     }
 
 -- the first item whose name is there already stands on the first bad line
-pub repeat_is_bad : (lines before rest : List (List ℕ)) (items : List Item) (place n : ℕ) → lines ≡ before ++ rest → AreSpelled before items → IsFirstRepeat items place → n ≡ place + 1 → IsFirstBad lines n
+pub repeat_is_bad : (lines before rest : List (List ℕ)) (items : List Feature) (place n : ℕ) → lines ≡ before ++ rest → AreSpelled before items → IsFirstRepeat items place → n ≡ place + 1 → IsFirstBad lines n
 repeat_is_bad lines before rest items place n e s r is =
     let c = split_at before items place s.each r.within in
     let f : before ≡ (c.before ++ c.line ∷ []) ++ c.after = c.is ∙ sym (append_assoc c.before (c.line ∷ []) c.after) in
@@ -220,12 +220,12 @@ repeat_is_bad lines before rest items place n e s r is =
     }
 
 -- so it is where all lines were read, and where they were read up to some line
-pub repeat_found : (all : Bool) (lines : List (List ℕ)) (items : List Item) (place : ℕ) → MatchBool all (AreSpelled lines items) (StopAt lines items) → IsFirstRepeat items place → IsFirstBad lines (place + 1)
+pub repeat_found : (all : Bool) (lines : List (List ℕ)) (items : List Feature) (place : ℕ) → MatchBool all (AreSpelled lines items) (StopAt lines items) → IsFirstRepeat items place → IsFirstBad lines (place + 1)
 repeat_found true lines items place s r = repeat_is_bad lines lines [] items place (place + 1) (sym (append-nil lines)) s r refl
 repeat_found false lines items place s r = repeat_is_bad lines s.before (s.line ∷ s.after) items place (place + 1) s.place s.good r refl
 
 -- where no name is repeated before it, the line where reading stopped is the first bad one
-pub stop_is_bad : (lines : List (List ℕ)) (items : List Item) (n : ℕ) → StopAt lines items → AreApart items → n ≡ length items + 1 → IsFirstBad lines n
+pub stop_is_bad : (lines : List (List ℕ)) (items : List Feature) (n : ℕ) → StopAt lines items → AreApart items → n ≡ length items + 1 → IsFirstBad lines n
 stop_is_bad lines items n s apart e = record {
   before = s.before;
   line = s.line;

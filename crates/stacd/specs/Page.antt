@@ -3,7 +3,7 @@ use Rattle.std.specs.Prelude.{◌≡◌, ℕ, ◌^◌, Bool, true, ◌||◌, nat
 use Rattle.std.specs.declared.option.Option.{Option}
 use Rattle.std.specs.Io.KnownBytes.{Appends, Consumes, Keeps}
 use Rattle.sc_outside.specs.Outside.{AppendsFront}
-use Rattle.sc_fixed.specs.declared.item.Item.{Item}
+use Rattle.sc_item.specs.Feature.{Feature}
 use Rattle.sc_outside.specs.Lines.{lines_to_read}
 use Rattle.sc_page.specs.Order.{default_order}
 use Rattle.sc_page.specs.Page.{every_item, bare_page_text, IsFlatPage}
@@ -19,9 +19,9 @@ lines_to_judge taken ended = lines_to_read (ended || nat_lt (2 ^ 28) (length tak
 
 -- the lines are items, and the text is their page and a line feed
 pub record IsAnswer (lines : List (List ℕ)) (limit : ℕ) (text : List ℕ) : Type 0 where
-  pub items : List Item
+  pub items : List Feature
   pub are : AreItems lines items
-  pub page : List Item
+  pub page : List Feature
   pub flat : IsFlatPage every_item default_order limit items page
   pub is : text ≡ bare_page_text page ++ 10 ∷ []
 
@@ -29,7 +29,7 @@ pub record IsAnswer (lines : List (List ℕ)) (limit : ℕ) (text : List ℕ) : 
 abbrev pub EndsOn : PageEnd → ℕ → List (List ℕ) → Bool → Option (List ℕ) → Option (List ℕ) → Type 0
 EndsOn Done limit lines ended old new = (ended ≡ true) × (text : List ℕ) × IsAnswer lines limit text × Appends old new text
 EndsOn (BadLine n) limit lines ended old new = IsFirstBad lines n × Keeps old new
-EndsOn ReadFault limit lines ended old new = (items : List Item) × AreItems lines items × Keeps old new
+EndsOn ReadFault limit lines ended old new = (items : List Feature) × AreItems lines items × Keeps old new
 EndsOn WriteFault limit lines ended old new = (ended ≡ true) × (text : List ℕ) × IsAnswer lines limit text × AppendsFront old new text
 EndsOn OutOfMemory limit lines ended old new = Keeps old new
 

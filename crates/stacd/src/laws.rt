@@ -1,11 +1,11 @@
 ghost use Rattle.std.specs.Prelude.{◌≡◌, ℕ, List};
-ghost use Rattle.sc_fixed.specs.declared.item.Item.{Item};
+ghost use Rattle.sc_item.specs.Feature.{Feature};
 ghost use Rattle.stacd.specs.Lines.{AreItems, IsFirstBad};
 ghost use Rattle.stacd.specs.Page.{IsAnswer};
 
 /// Lines with a first bad one aren't items, so a call that ends on a bad line could have ended in no page.
 pub fn bad_or_good()
-    ensures { (lines : List (List ℕ)) (n : ℕ) (items : List Item) → IsFirstBad lines n → AreItems lines items → ⊥ }
+    ensures { (lines : List (List ℕ)) (n : ℕ) (items : List Feature) → IsFirstBad lines n → AreItems lines items → ⊥ }
 {}
 
 /// Lines have at most one first bad one.

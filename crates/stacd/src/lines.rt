@@ -3,7 +3,7 @@ ghost use Rattle.sc_outside.specs.Lines.{lines_to_read};
 ghost use Rattle.stacd.specs.Lines.{AreSpelled, StopAt, AreItems, IsFault};
 
 use crate::fault::LineFault;
-use sc_fixed::{Item, first_repeat, read_line};
+use sc_item::{Item, first_repeat, read_line};
 use sc_outside::{Seq, line_without_feed, next_line};
 use std::alloc::{AllocError, Global};
 

@@ -1,4 +1,0 @@
-pub mod Line
-pub mod Time
-pub mod Item
-pub mod Names
