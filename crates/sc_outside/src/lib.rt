@@ -1,4 +1,5 @@
-//! The outside, as the rest of the program sees it: sources, sinks and listeners that count their faults.
+//! The outside, as the rest of the program sees it: sources, sinks and listeners that count their faults, and a count of
+//! steps.
 #![tactic(auto)]
 
 mod lines;
@@ -8,6 +9,7 @@ mod memory;
 mod outside;
 mod reading;
 mod standard;
+mod steps;
 #[cfg(test)]
 mod tests;
 mod writing;
@@ -20,4 +22,5 @@ pub use outside::{Failed, Sink, Source};
 pub use reading::{ReadEnd, Taken, read_all};
 pub use sc_base::Seq;
 pub use standard::{StdSink, StdSource};
+pub use steps::Steps;
 pub use writing::write_all;

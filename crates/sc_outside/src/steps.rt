@@ -1,0 +1,42 @@
+ghost use Rattle.std.specs.Prelude.{◌≡◌, ◌+◌, ◌<◌};
+
+use std::marker::Model;
+use std::sync::ledger::{Blank, Book, Ledger, Share};
+
+/// A count of steps, which contracts see as a number without an upper limit. It takes no bytes, and counting does
+/// nothing when the program runs. Which ledger it counts over is its maker's choice.
+#[derive(Drop)]
+pub struct Steps<L: Ledger> {
+    book: Book<L>,
+    share: Share<L>,
+}
+
+impl<L: Ledger> Model for Steps<L> {
+    ghost use Rattle.std.specs.Prelude.{ℕ, ◌<◌};
+
+    ghost Value = { ℕ };
+
+    ghost view = { λ s. s.book.total };
+
+    ghost invariant = { λ s. 0 < s.share.parts };
+}
+
+impl<L: Ledger> Steps<L> {
+    /// A counter that stands at 0, over a ledger that wasn't opened yet.
+    pub fn new(blank: Blank) -> Steps<L>
+        requires name { blank.name ≡ L.name }
+        requires parts { blank.parts ≡ L.parts }
+        requires some { 0 < blank.parts }
+        ensures { result ≡ 0 }
+    {
+        let (book, share) = blank.open();
+        Steps { book, share }
+    }
+
+    /// Counts `n` steps more.
+    pub fn add(&mut self, n: u64)
+        ensures { self.new ≡ self.old + n }
+    {
+        self.book.add(&mut self.share, n);
+    }
+}
