@@ -9,7 +9,7 @@ use std::alloc::{AllocError, Global};
 
 /// The rings of an area, and what is known of their positions.
 #[derive(Drop)]
-pub(crate) struct Area {
+pub struct Area {
     pub(crate) rings: Vec<Seq<Pt>>,
     pub(crate) count: u64,
     pub(crate) outside: bool,
@@ -18,7 +18,7 @@ pub(crate) struct Area {
 
 impl Area {
     /// No rings, with room for so many.
-    pub(crate) fn new(alloc: Global, room: usize) -> Result<Area, AllocError>
+    pub fn new(alloc: Global, room: usize) -> Result<Area, AllocError>
         ensures { IfOk result (λ area. IsArea area []) }
     {
         Ok(Area {
@@ -30,7 +30,7 @@ impl Area {
     }
 
     /// Adds a ring at the end.
-    pub(crate) fn push(&mut self, ring: Path) -> Result<(), AllocError>
+    pub fn push(&mut self, ring: Path) -> Result<(), AllocError>
         ensures { (rings : List (List (Option PtRecord))) (places : List (Option PtRecord)) →
             IsArea self.old rings → IsPath ring places → OnOk result (IsArea self.new (rings ++ places ∷ [])) }
     {

@@ -1,6 +1,7 @@
 ghost use Rattle.std.specs.Prelude.{◌≡◌, ◌≤◌, ◌++◌, ◌∷◌, [], List, Option, OnOk, IfSome, length};
 ghost use Rattle.sc_geom.specs.Shapes.{Shapes, nothing, beside};
-ghost use Rattle.sc_geom.specs.Sketch.{Sketch};
+ghost use Rattle.sc_geom.specs.Sketch.{Sketch, has_open_ring};
+ghost use Rattle.sc_geom.specs.Answers.{count_of};
 ghost use Rattle.sc_geom.specs.Point.{IsInWorld};
 ghost use Rattle.sc_geom.specs.Drawn.{points_only, lines_only, areas_only};
 ghost use Rattle.sc_geom.specs.Building.{IsDraft, IsArea, IsPath, Finishes};
@@ -16,7 +17,7 @@ use std::alloc::{AllocError, Global};
 
 /// The shapes that are read so far, and what is known of their positions.
 #[derive(Drop)]
-pub(crate) struct Draft {
+pub struct Draft {
     pub(crate) points: Vec<Pt>,
     pub(crate) lines: Vec<Seq<Pt>>,
     pub(crate) areas: Vec<Seq<Seq<Pt>>>,
@@ -26,7 +27,8 @@ pub(crate) struct Draft {
 }
 
 impl Draft {
-    pub(crate) fn new(alloc: Global) -> Draft
+    /// Nothing read so far.
+    pub fn new(alloc: Global) -> Draft
         ensures { IsDraft result nothing }
     {
         Draft {
@@ -39,22 +41,36 @@ impl Draft {
         }
     }
 
+    /// How many positions were added, those that close rings too.
+    pub fn count(&self) -> u64
+        ensures { (s : Sketch) → IsDraft self.now s → result ≡ count_of s }
+    {
+        self.count
+    }
+
+    /// Whether a ring that was added is open.
+    pub fn has_open_ring(&self) -> bool
+        ensures { (s : Sketch) → IsDraft self.now s → result ≡ has_open_ring s }
+    {
+        self.has_open_ring
+    }
+
     /// Takes room for so many lines more.
-    pub(crate) fn reserve_lines(&mut self, more: usize) -> Result<(), AllocError>
+    pub fn reserve_lines(&mut self, more: usize) -> Result<(), AllocError>
         ensures { (s : Sketch) → IsDraft self.old s → OnOk result (IsDraft self.new s) }
     {
         self.lines.reserve(more)
     }
 
     /// Takes room for so many areas more.
-    pub(crate) fn reserve_areas(&mut self, more: usize) -> Result<(), AllocError>
+    pub fn reserve_areas(&mut self, more: usize) -> Result<(), AllocError>
         ensures { (s : Sketch) → IsDraft self.old s → OnOk result (IsDraft self.new s) }
     {
         self.areas.reserve(more)
     }
 
     /// Adds points at the end.
-    pub(crate) fn add_points(&mut self, path: Path) -> Result<(), AllocError>
+    pub fn add_points(&mut self, path: Path) -> Result<(), AllocError>
         ensures { (s : Sketch) (places : List (Option PtRecord)) →
             IsDraft self.old s → IsPath path places → OnOk result (IsDraft self.new (beside s (points_only places))) }
     {
@@ -71,7 +87,7 @@ impl Draft {
     }
 
     /// Adds a line at the end.
-    pub(crate) fn add_line(&mut self, path: Path) -> Result<(), AllocError>
+    pub fn add_line(&mut self, path: Path) -> Result<(), AllocError>
         ensures { (s : Sketch) (places : List (Option PtRecord)) →
             IsDraft self.old s → IsPath path places → 2 ≤ length places →
             OnOk result (IsDraft self.new (beside s (lines_only (places ∷ [])))) }
@@ -89,7 +105,7 @@ impl Draft {
     }
 
     /// Adds an area at the end.
-    pub(crate) fn add_area(&mut self, area: Area) -> Result<(), AllocError>
+    pub fn add_area(&mut self, area: Area) -> Result<(), AllocError>
         ensures { (s : Sketch) (rings : List (List (Option PtRecord))) →
             IsDraft self.old s → IsArea area rings → 1 ≤ length rings →
             OnOk result (IsDraft self.new (beside s (areas_only (rings ∷ [])))) }
@@ -109,7 +125,7 @@ impl Draft {
     }
 
     /// The geometry of all that was added, or the first fault.
-    pub(crate) fn finish(self, most: u32) -> Result<Geom, GeomFault>
+    pub fn finish(self, most: u32) -> Result<Geom, GeomFault>
         requires { (s : Sketch) × IsDraft self s }
         ensures { (s : Sketch) → IsDraft self s → Finishes result s most }
     {

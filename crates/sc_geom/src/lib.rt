@@ -21,12 +21,16 @@ mod rects;
 mod tests;
 mod tree;
 
+pub use area::Area;
 pub use boxes::GridBox;
+pub use draft::Draft;
 pub use extent::box_of;
 pub use fault::GeomFault;
 pub use geom::Geom;
 pub use laws::tree_depicts_one;
 pub use outline::geom_of_rects;
+pub use path::Path;
+pub use place::{latitude, longitude};
 pub use point::Pt;
 pub use read::geom_of_json;
 pub use rects::{Rects, rects_of_bbox};

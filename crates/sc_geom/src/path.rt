@@ -9,7 +9,7 @@ use std::alloc::{AllocError, Global};
 
 /// The positions of a list, in order. A position outside the world stands as the origin, and is known to be one.
 #[derive(Drop)]
-pub(crate) struct Path {
+pub struct Path {
     pub(crate) points: Vec<Pt>,
     pub(crate) first: Option<Pt>,
     pub(crate) last: Option<Pt>,
@@ -28,7 +28,7 @@ fn settled(place: Option<Pt>) -> Pt
 
 impl Path {
     /// No positions, with room for so many.
-    pub(crate) fn new(alloc: Global, room: usize) -> Result<Path, AllocError>
+    pub fn new(alloc: Global, room: usize) -> Result<Path, AllocError>
         ensures { IfOk result (λ path. IsPath path []) }
     {
         Ok(Path {
@@ -40,7 +40,7 @@ impl Path {
     }
 
     /// Adds a position at the end, which is in range, or none where it is outside the world.
-    pub(crate) fn push(&mut self, place: Option<Pt>) -> Result<(), AllocError>
+    pub fn push(&mut self, place: Option<Pt>) -> Result<(), AllocError>
         requires { IfSome place IsInWorld }
         ensures { (places : List (Option PtRecord)) → IsPath self.old places →
             OnOk result (IsPath self.new (places ++ place ∷ [])) }
@@ -54,14 +54,15 @@ impl Path {
         Ok(())
     }
 
-    pub(crate) fn len(&self) -> usize
+    /// How many positions there are, those outside the world too.
+    pub fn len(&self) -> usize
         ensures { (places : List (Option PtRecord)) → IsPath self.now places → result ≡ length places }
     {
         self.points.len()
     }
 
     /// Whether it is no ring: it has fewer than 4 positions, or its ends lie in the world, apart.
-    pub(crate) fn is_open(&self) -> bool
+    pub fn is_open(&self) -> bool
         ensures { (places : List (Option PtRecord)) → IsPath self.now places → result ≡ is_open places }
     {
         if self.points.len() < 4 {

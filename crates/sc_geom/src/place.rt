@@ -23,7 +23,7 @@ fn step_between(low: i64, high: i64, number: &Dec) -> Option<i64>
 }
 
 /// A longitude on the grid, from -360 to 360 degrees; `None` where it is out of that range.
-pub(crate) fn longitude(number: &Dec) -> Option<i64>
+pub fn longitude(number: &Dec) -> Option<i64>
     ensures step { result ≡ longitude_of number.now }
     ensures range { IfSome result IsLongitude }
 {
@@ -31,7 +31,7 @@ pub(crate) fn longitude(number: &Dec) -> Option<i64>
 }
 
 /// A latitude on the grid, from -90 to 90 degrees; `None` where it is out of that range.
-pub(crate) fn latitude(number: &Dec) -> Option<i64>
+pub fn latitude(number: &Dec) -> Option<i64>
     ensures step { result ≡ latitude_of number.now }
     ensures range { IfSome result IsLatitude }
 {
