@@ -1,0 +1,5 @@
+pub mod Grammar
+pub mod Classes
+pub mod Lexing
+pub mod Words
+pub mod Tokens
