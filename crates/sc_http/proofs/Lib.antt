@@ -1,0 +1,7 @@
+pub mod Digits
+pub mod Names
+pub mod Feeds
+pub mod Fronts
+pub mod Bodies
+pub mod Steps
+pub mod Whole
