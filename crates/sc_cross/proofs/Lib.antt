@@ -1,0 +1,9 @@
+pub mod Products
+pub mod Verdicts
+pub mod Anys
+pub mod Counts
+pub mod Sides
+pub mod Inside
+pub mod Walks
+pub mod Geometries
+pub mod Meetings

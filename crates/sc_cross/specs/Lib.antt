@@ -1,0 +1,4 @@
+pub mod Segment
+pub mod Area
+pub mod Meets
+pub mod Parts
