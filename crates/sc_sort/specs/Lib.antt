@@ -1,0 +1,5 @@
+pub mod Keys
+pub mod Order
+pub mod Spec
+pub mod Sorts
+pub mod Words
