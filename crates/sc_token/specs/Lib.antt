@@ -1,0 +1,5 @@
+pub mod Faults
+pub mod Fits
+pub mod Reading
+pub mod Steps
+pub mod Token
