@@ -1,0 +1,4 @@
+pub mod Every
+pub mod Formed
+pub mod Keeping
+pub mod Levels
