@@ -1,0 +1,12 @@
+pub mod Content
+pub mod Changes
+pub mod Names
+pub mod History
+pub mod Refusals
+pub mod Taken
+pub mod Part
+pub mod Touch
+pub mod Sound
+pub mod Installs
+pub mod Views
+pub mod Example
