@@ -1,4 +1,5 @@
 use sc_base::first_part;
+use sc_cross::meets;
 use sc_decimal::Dec;
 use sc_geom::{Geom, GeomFault, GridBox, Pt, Seq, box_of, geom_of_json, rects_of_bbox};
 use sc_json::read_json;
@@ -120,4 +121,26 @@ pub fn bbox(alloc: Global, input: &[u8]) -> Result<Option<String>, AllocError> {
             Ok(Some(format!(in alloc; "ok {first} {second}")?))
         }
     }
+}
+
+/// The geometry of a text; none where it has none.
+fn geometry_of(alloc: Global, text: &[u8]) -> Option<Geom> {
+    let tree = read_json(alloc, text).ok()?;
+    geom_of_json(alloc, &tree, MOST).ok()
+}
+
+/// `meets`: whether the geometries of two lines meet.
+pub fn meeting(alloc: Global, input: &[u8]) -> Result<Option<String>, AllocError> {
+    let (first, rest) = first_part(b'\n', input);
+    let Some(second) = rest else {
+        return Ok(None);
+    };
+    let Some(a) = geometry_of(alloc, first) else {
+        return Ok(None);
+    };
+    let Some(b) = geometry_of(alloc, second) else {
+        return Ok(None);
+    };
+    let meet = meets(&a, &b);
+    Ok(Some(format!(in alloc; "{meet}")?))
 }

@@ -4,7 +4,7 @@ use sc_json::{read_json, write_json};
 use std::alloc::{AllocError, Global};
 
 /// The two parts of an input, before and behind its first line feed.
-fn two_lines(input: &[u8]) -> Option<(&[u8], &[u8])> {
+pub fn two_lines(input: &[u8]) -> Option<(&[u8], &[u8])> {
     let feed = input.iter().position(|byte| *byte == b'\n')?;
     let (first, rest) = input.split_at(feed);
     let (_, second) = rest.split_first()?;

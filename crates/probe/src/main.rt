@@ -4,11 +4,13 @@
 //! line of answer. A kind that isn't known, and an input that isn't of its kind's outer shape, answers `skip`.
 #![tactic(auto)]
 
+mod collections;
 mod cuts;
 mod geometries;
 mod item;
 mod json;
 mod numbers;
+mod orders;
 mod times;
 
 use std::alloc::{AllocError, Global};
@@ -18,18 +20,25 @@ use std::io::BufRead;
 /// The answer to an input of a kind; none where it has none.
 fn answer(alloc: Global, kind: &[u8], input: &[u8]) -> Result<Option<String>, AllocError> {
     match kind {
+        b"collection" => collections::collection(alloc, input),
         b"cut-key" => cuts::cut_key(alloc, input),
         b"dec" => Ok(Some(numbers::dec(alloc, input)?)),
         b"dec-order" => numbers::dec_order(alloc, input),
         b"item" => item::item(alloc, input),
         b"json" => Ok(Some(json::json(alloc, input)?)),
+        b"key-order" => orders::key_order(alloc, input),
         b"merge-patch" => item::patch(alloc, input),
         b"instant" => Ok(Some(times::instant(alloc, input)?)),
         b"date" => Ok(Some(times::date(alloc, input)?)),
         b"range" => Ok(Some(times::range(alloc, input)?)),
         b"geojson" => Ok(Some(geometries::geojson(alloc, input)?)),
         b"bbox" => geometries::bbox(alloc, input),
+        b"meets" => geometries::meeting(alloc, input),
+        b"sort-text" => orders::sort_text(alloc, input),
+        b"sort-tree" => orders::sort_tree(alloc, input),
         b"span" => cuts::span(alloc, input),
+        b"token" => orders::token(alloc, input),
+        b"token-write" => orders::token_write(alloc, input),
         _ => Ok(None),
     }
 }
