@@ -8,5 +8,9 @@ if ! command -v python3 >/dev/null; then
 fi
 ./stacd page 1 </dev/null >/dev/null
 python3 tests/runs.py crates/stacd/out/stacd tests/vectors/page
-(cd crates/probe && rt run >/dev/null)
-python3 tests/parts.py crates/probe/out/probe tests/vectors/*.txt
+probe=crates/probe/out/probe
+if [ ! -x "$probe" ] || [ -n "$(find crates/*/src -newer "$probe" -name '*.rt' -print -quit)" ]; then
+    echo "tests/vectors.sh: proves and builds the probe first, which takes minutes" >&2
+    (cd crates/probe && rt run >/dev/null)
+fi
+python3 tests/parts.py "$probe" tests/vectors/*.txt
