@@ -20,6 +20,7 @@ impl Model for Buffer {
 }
 
 impl Buffer {
+    /// No bytes. Takes no memory.
     pub fn new(alloc: Global) -> Buffer
         ensures { result ≡ [] }
     {
@@ -37,6 +38,7 @@ impl Buffer {
         })
     }
 
+    /// Adds a byte at the end.
     pub fn push(&mut self, byte: u8) -> Result<(), AllocError>
         ensures { OnOk result (self.new ≡ self.old ++ byte ∷ []) }
     {
@@ -44,12 +46,14 @@ impl Buffer {
         Ok(())
     }
 
+    /// Adds bytes at the end.
     pub fn extend(&mut self, bytes: &[u8]) -> Result<(), AllocError>
         ensures { OnOk result (self.new ≡ self.old ++ bytes.now) }
     {
         self.bytes.extend_from_slice(bytes)
     }
 
+    /// The bytes.
     pub fn as_slice(&self) -> &[u8]
         ensures { result.now ≡ self.now }
     {

@@ -36,6 +36,7 @@ impl Model for Members {
 }
 
 impl Members {
+    /// No members. Takes no memory.
     pub fn new(alloc: Global) -> Members
         ensures { result ≡ [] }
     {
@@ -55,6 +56,7 @@ impl Members {
         }
     }
 
+    /// Adds a member at the end.
     pub fn push(&mut self, alloc: Global, member: Member) -> Result<(), AllocError>
         ensures { OnOk result (self.new ≡ self.old ++ member ∷ []) }
     {
@@ -65,6 +67,7 @@ impl Members {
         Ok(())
     }
 
+    /// The members in their order.
     pub fn into_seq(self) -> Seq<Member>
         ensures { result ≡ self }
     {

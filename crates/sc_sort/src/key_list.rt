@@ -58,12 +58,14 @@ impl KeyList {
         self.values.as_slice()
     }
 
+    /// The item's collection.
     pub fn collection(&self) -> &Text
         ensures { result.now ≡ self.now.collection }
     {
         &self.collection
     }
 
+    /// The item's id.
     pub fn id(&self) -> &Text
         ensures { result.now ≡ self.now.id }
     {
