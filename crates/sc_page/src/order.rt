@@ -1,11 +1,11 @@
-ghost use Rattle.std.specs.Prelude.{◌≡◌, IfOk};
+ghost use Rattle.std.specs.Prelude.{◌≡◌, IfOk, map};
 ghost use Rattle.std.specs.Ordering.{int_cmp};
 ghost use Rattle.sc_item.specs.Names.{AreApart};
 ghost use Rattle.sc_page.specs.Order.{name_order, default_order, IsListing};
 
 use sc_item::Item;
 use sc_time::Instant;
-use std::alloc::AllocError;
+use std::alloc::{AllocError, Global};
 use std::cmp::Ordering;
 
 /// Which of two instants is earlier.
@@ -38,12 +38,23 @@ pub fn compare_items(a: &Item, b: &Item) -> Ordering
     }
 }
 
-/// The items in the order of a page.
-pub(crate) fn listed(items: Vec<Item>) -> Result<Vec<Item>, AllocError>
-    requires { AreApart items.items }
-    ensures { IfOk result (λ listed. IsListing default_order items.items listed.items) }
+/// The items in the order of a page. They are sorted where they are lent, so that none is moved.
+pub(crate) fn listed(alloc: Global, items: &[Item]) -> Result<Vec<&Item>, AllocError>
+    requires { AreApart items.now }
+    ensures { IfOk result (λ listed. IsListing default_order items.now (map (λ i. i.now) listed.items)) }
 {
-    let mut items = items;
-    items.sort_by(|a, b| compare_items(a, b))?;
-    Ok(items)
+    let mut listed = lend(alloc, items)?;
+    listed.sort_by(|a, b| compare_items(a, b))?;
+    Ok(listed)
+}
+
+/// Each of the items, lent, in their order.
+fn lend(alloc: Global, items: &[Item]) -> Result<Vec<&Item>, AllocError>
+    ensures { IfOk result (λ each. map (λ i. i.now) each.items ≡ items.now) }
+{
+    let mut each = Vec::with_capacity(alloc, items.len())?;
+    for item in items {
+        each.push(item)?;
+    }
+    Ok(each)
 }

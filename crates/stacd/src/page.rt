@@ -30,7 +30,7 @@ fn answer(alloc: Global, limit: u32, bytes: Seq<u8>) -> Result<Text, LineFault>
     ensures { MatchResult result (IsAnswer (lines_to_read true bytes) limit) (IsFault (lines_to_read true bytes)) }
 {
     let items = judge(alloc, bytes, true)?;
-    let page = flat_page(items, limit)?;
+    let page = flat_page(alloc, items.as_slice(), limit)?;
     let mut text = page_text(alloc, page.as_slice())?;
     text.push_str("\n")?;
     Ok(text)
