@@ -1,0 +1,4 @@
+pub mod Rules
+pub mod Table
+pub mod Reading
+pub mod Machine
