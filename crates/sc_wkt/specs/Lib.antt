@@ -1,0 +1,5 @@
+pub mod Drawing
+pub mod Kept
+pub mod Levels
+pub mod Reading
+pub mod Answer
