@@ -1,0 +1,10 @@
+pub mod Tokens
+pub mod Nesting
+pub mod Reading
+pub mod Kept
+pub mod Fronts
+pub mod Filters
+pub mod Faults
+pub mod Passing
+pub mod Ends
+pub mod Judged
