@@ -1,0 +1,10 @@
+pub mod Tokens
+pub mod Coordinate
+pub mod Moment
+pub mod Geometries
+pub mod Scalars
+pub mod Predicates
+pub mod Written
+pub mod Spelling
+pub mod Spellable
+pub mod Answer
