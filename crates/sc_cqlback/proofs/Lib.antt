@@ -1,0 +1,12 @@
+pub mod Longest
+pub mod Wholes
+pub mod Lexical
+pub mod Readings
+pub mod Words
+pub mod Moments
+pub mod Instants
+pub mod Quotes
+pub mod Coordinates
+pub mod Scalars
+pub mod Geometries
+pub mod Expressions

@@ -1,0 +1,5 @@
+pub mod Says
+pub mod Scalars
+pub mod Geometries
+pub mod Expressions
+pub mod Tokens
