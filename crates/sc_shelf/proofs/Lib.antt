@@ -1,0 +1,11 @@
+pub mod Between
+pub mod Splitting
+pub mod Midway
+pub mod Owning
+pub mod Hulling
+pub mod Touching
+pub mod Installing
+pub mod Finding
+pub mod Publishing
+pub mod Alone
+pub mod Standing
