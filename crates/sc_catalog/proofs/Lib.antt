@@ -1,0 +1,12 @@
+pub mod Looking
+pub mod Twice
+pub mod Grouping
+pub mod Steps
+pub mod Publishing
+pub mod Dropping
+pub mod Indexing
+pub mod Overfull
+pub mod Patching
+pub mod Preparing
+pub mod Committing
+pub mod Views

@@ -1,0 +1,54 @@
+//! What is taken out of a catalogue and outlives its changes, and hulls that come back to it.
+ghost use Rattle.std.specs.Prelude.{◌≡◌, List, length, option_map, IfOk, OnErr, OnOk};
+ghost use Rattle.sc_history.specs.Changes.{Change};
+ghost use Rattle.sc_history.specs.Installs.{answer};
+ghost use Rattle.sc_history.specs.Part.{lookup};
+ghost use Rattle.sc_history.specs.Taken.{Tells};
+ghost use Rattle.sc_history.specs.Views.{IsSnapshot, IsTight};
+ghost use Rattle.sc_shelf.specs.Ticket.{version_of};
+ghost use Rattle.sc_catalog.specs.Holdings.{loads_of};
+ghost use Rattle.sc_catalog.specs.Views.{AnswersLook, IsInstalled};
+
+use crate::catalogue::Catalogue;
+use sc_cut::PartName;
+use sc_history::Installed;
+use sc_shelf::{Snapshot, Ticket, Tight};
+use std::alloc::{AllocError, Global};
+
+impl Catalogue {
+    /// The catalogue as it is: its revision, its collections, and its parts with their bounds. One pointer to each of the two
+    /// lists is copied, whatever they hold.
+    pub fn snapshot(&self) -> Result<Snapshot, AllocError>
+        ensures taken { IfOk result (λ snap. snap ≡ record { revision = length self.now.entries; collections = self.now.collections; parts = self.now.parts }) }
+        ensures stands { IfOk result (λ snap. (past : List Change) → Tells (loads_of self.now.entries) past → IsSnapshot past snap) }
+    {
+        Ok(Snapshot::of(
+            self.history.len() as u64,
+            self.collections.share()?,
+            self.parts.share()?,
+        ))
+    }
+
+    /// A ticket of the part with the name: its stamp, and the items that it has now. None exactly where there is no such part.
+    /// The ticket shares the part's version.
+    pub fn look(&self, name: &PartName) -> Result<Option<Ticket>, AllocError>
+        ensures taken { IfOk result (λ ticket. ticket ≡ option_map version_of (lookup name.now self.now.parts)) }
+        ensures stands { IfOk result (λ ticket. (past : List Change) → Tells (loads_of self.now.entries) past → AnswersLook past name.now ticket) }
+    {
+        self.parts.look(name)
+    }
+
+    /// Installs the hull of a ticket that was taken of this catalogue, now or earlier. The part's bounds become the hull, or
+    /// what lies within the hull and the additions since, or they stay, as the answer tells; nothing else changes, and no
+    /// bounds become wider. Want of memory leaves the catalogue as it was.
+    pub fn install(&mut self, alloc: Global, tight: &Tight) -> Result<Installed, AllocError>
+        requires { (past : List Change) → Tells (loads_of self.old.entries) past → IsTight past tight.now.name tight.now.stamp tight.now.bounds }
+        ensures answer { IfOk result (λ told. told ≡ answer tight.now.stamp (lookup tight.now.name self.old.parts)) }
+        ensures ok { OnOk result (IsInstalled tight.now self.old self.new) }
+        ensures err { OnErr result (self.new ≡ self.old) }
+    {
+        let answer = self.parts.install_answer(tight);
+        self.parts = self.parts.with_install(alloc, tight)?;
+        Ok(answer)
+    }
+}
