@@ -3,6 +3,7 @@ use sc_cross::meets;
 use sc_decimal::Dec;
 use sc_geom::{Geom, GeomFault, GridBox, Pt, Seq, box_of, geom_of_json, rects_of_bbox};
 use sc_json::read_json;
+use sc_wkt::{WktFault, geom_of_wkt};
 use std::alloc::{AllocError, Global};
 
 /// The most positions that are read.
@@ -84,6 +85,20 @@ pub fn geojson(alloc: Global, input: &[u8]) -> Result<String, AllocError> {
             Ok(text)
         }
         Err(found) => fault(alloc, found),
+    }
+}
+
+/// `wkt`: the geometry of at most 1,000 positions at the front, and how many bytes it takes.
+pub fn wkt(alloc: Global, input: &[u8]) -> Result<String, AllocError> {
+    match geom_of_wkt(alloc, input, 1_000) {
+        Ok((geometry, taken)) => {
+            let mut text = format!(in alloc; "ok {taken} ")?;
+            push_geometry(&mut text, alloc, &geometry)?;
+            Ok(text)
+        }
+        Err(WktFault::Syntax { at }) => format!(in alloc; "fault Syntax {at}"),
+        Err(WktFault::BadLiteral { at }) => format!(in alloc; "fault BadLiteral {at}"),
+        Err(WktFault::OutOfMemory) => String::from_str(alloc, "fault OutOfMemory"),
     }
 }
 

@@ -6,6 +6,7 @@
 
 mod collections;
 mod cuts;
+mod filters;
 mod geometries;
 mod item;
 mod json;
@@ -21,6 +22,7 @@ use std::io::BufRead;
 fn answer(alloc: Global, kind: &[u8], input: &[u8]) -> Result<Option<String>, AllocError> {
     match kind {
         b"collection" => collections::collection(alloc, input),
+        b"cql-text" => Ok(Some(filters::cql_text(alloc, input)?)),
         b"cut-key" => cuts::cut_key(alloc, input),
         b"dec" => Ok(Some(numbers::dec(alloc, input)?)),
         b"dec-order" => numbers::dec_order(alloc, input),
@@ -39,6 +41,7 @@ fn answer(alloc: Global, kind: &[u8], input: &[u8]) -> Result<Option<String>, Al
         b"span" => cuts::span(alloc, input),
         b"token" => orders::token(alloc, input),
         b"token-write" => orders::token_write(alloc, input),
+        b"wkt" => Ok(Some(geometries::wkt(alloc, input)?)),
         _ => Ok(None),
     }
 }
