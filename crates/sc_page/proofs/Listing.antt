@@ -1,16 +1,15 @@
 -- What a sort leaves is the listing of the items, and there is one.
-use Rattle.std.proofs.Common.{◌≡◌, ◌≢◌, ℕ, ◌<◌, Bool, true, false, cond, eqb, ⊎_elim, ◌⊎◌, inl, inr, suc, zero, List, [], ◌∷◌, length, get_or, filter, map, take, ◌+◌, Ordering, refl, sym, ◌∙◌, ap, subst, arith, rules}
+use Rattle.std.proofs.Common.{◌≡◌, ◌≢◌, ℕ, ◌<◌, Bool, true, false, cond, eqb, ⊎_elim, ◌⊎◌, inl, inr, suc, zero, List, [], ◌∷◌, length, get_or, filter, take, Ordering, refl, sym, ◌∙◌, ap, subst, arith, rules}
 use Rattle.std.specs.declared.cmp.Ordering.TheVariants.{Less, Equal, Greater}
-use Rattle.std.specs.Ordering.{is_lt, nat_cmp, int_cmp, ordering_then, ordering_reverse}
+use Rattle.std.specs.Ordering.{nat_cmp, int_cmp, ordering_then, ordering_reverse}
 use Rattle.std.specs.Cmp.{IsTotalOrder}
-use Rattle.std.proofs.lemmas.List.{length-map, get_or-map}
 use Rattle.std.specs.Cmp.Rules.{comparing}
 use Rattle.std.specs.List.{AllPairs, Contains, swap}
-use Rattle.std.specs.List.Sorted.{IsPermutation, IsSortedBy}
+use Rattle.std.specs.List.Sorted.{IsPermutation}
 use Rattle.std.proofs.lemmas.Cmp.{ranked, by_ranked}
 use Rattle.std.proofs.lemmas.Bool.{cases_lt}
 use Rattle.std.proofs.lemmas.Bool.Decides.{nat_tests}
-use Rattle.std.proofs.lemmas.List.Sorted.{ranks_by, sorted_far, IsPermutation-keeps, IsPermutation-map, IsPermutation-sym, Contains-permutation}
+use Rattle.std.proofs.lemmas.List.Sorted.{IsPermutation-keeps, IsPermutation-sym, Contains-permutation}
 use Rattle.std.proofs.lemmas.List.Edits.{swapped_from_swap, Swapped, length-swap}
 use Rattle.sc_base.specs.Text.{text_order}
 use Rattle.sc_item.specs.Feature.{Feature}
@@ -86,37 +85,14 @@ apart_at-swap l i j li lj apart m n d lm ln ne h =
     subst2' : {a b x y : Feature} → a ≡ x → b ≡ y → HaveOneName a b → HaveOneName x y
     subst2' e f g = (ap (λ t. t.collection) (sym e) ∙ g.0 ∙ ap (λ t. t.collection) f, ap (λ t. t.id) (sym e) ∙ g.1 ∙ ap (λ t. t.id) f)
 
+-- names that differ do so in any order of the items
+pub apart_permutation : (xs ys : List Feature) → IsPermutation xs ys → AreApart xs → AreApart ys
+apart_permutation xs ys p apart i j d l m =
+    IsPermutation-keeps xs ApartAt (apart_at xs apart) apart_at-swap ys p i j d (omega arith) m (omega arith)
+
 module _ (order : Feature → Feature → Ordering) (o : IsItemOrder order) where
   abbrev IsBefore : Feature → Feature → Type 0
   IsBefore a b = order a b ≡ Less
-
-  pub listing_from_sort : (xs ys : List Feature) → IsPermutation xs ys → IsSortedBy (λ x y. is_lt (order x y)) ys → AreApart xs → IsListing order xs ys
-  listing_from_sort xs ys p up apart = record {
-    same = p;
-    ordered = λ i j d l lj.
-        let a = get_or ys i d in
-        let b = get_or ys j d in
-        let at = IsPermutation-keeps xs ApartAt (apart_at xs apart) apart_at-swap ys p in
-        let far : is_lt (order b a) ≡ false = sorted_far (λ x y. is_lt (order x y)) (ranks_by o.total (λ x. x)) ys up i j d (omega arith) lj in
-        before (order b a) a b refl far (at j i d lj (omega arith) (omega arith));
-  }
-    where
-      before : (o : Ordering) (a b : Feature) → order b a ≡ o → is_lt o ≡ false → ¬ HaveOneName b a → order a b ≡ Less
-      before Less a b e f n = cc
-      before Equal a b e f n = absurd (n (o.ties b a e))
-      before Greater a b e f n = o.total.antisymm a b ∙ ap ordering_reverse e
-
-  -- what rises by its values has rising values
-  values_rise : {R : Type 0} (f : R → Feature) (rs : List R) → IsSortedBy (λ x y. is_lt (order (f x) (f y))) rs → IsSortedBy (λ x y. is_lt (order x y)) (map f rs)
-  values_rise f [] up k d low lt = absurd (omega arith)
-  values_rise f (r ∷ rs) up k d low lt =
-      let long : k + 1 < length (r ∷ rs) = subst (λ n. k + 1 < n) (length-map (r ∷ rs) f) lt in
-      rw (get_or-map f (r ∷ rs) (k + 1) r d long, get_or-map f (r ∷ rs) k r d (omega arith)) (up k r low long)
-
-  -- items that are lent and sorted
-  pub listing_from_sort_of : {R : Type 0} (f : R → Feature) (items : List Feature) (rs ss : List R) → map f rs ≡ items → IsPermutation rs ss → IsSortedBy (λ x y. is_lt (order (f x) (f y))) ss → AreApart items → IsListing order items (map f ss)
-  listing_from_sort_of f items rs ss e p up apart =
-      listing_from_sort items (map f ss) (subst (λ xs. IsPermutation xs (map f ss)) e (IsPermutation-map f rs ss p)) (values_rise f ss up) apart
 
   not_both : (a b : Feature) → IsBefore a b → IsBefore b a → ⊥
   not_both a b p q = let e : Less ≡ Greater = sym p ∙ o.total.antisymm a b ∙ ap ordering_reverse q in cc

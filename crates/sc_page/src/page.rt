@@ -1,75 +1,91 @@
-ghost use Rattle.std.specs.Prelude.{◌≡◌, ◌++◌, ◌∷◌, IfOk, OnOk, flat_map, map, string_bytes};
+ghost use Rattle.std.specs.Prelude.{◌≡◌, ◌++◌, ◌∷◌, [], List, ℕ, IfOk, OnOk, option_map};
+ghost use Rattle.sc_item.specs.Feature.{Feature};
 ghost use Rattle.sc_item.specs.Names.{AreApart};
 ghost use Rattle.sc_page.specs.Order.{default_order};
-ghost use Rattle.sc_page.specs.Page.{documents, page_start, page_middle, page_end, bare_page_text, every_item, IsFlatPage};
+ghost use Rattle.sc_page.specs.Page.{every_item, IsFlatPage};
+ghost use Rattle.sc_page.specs.Leading.{last_of_full, may_stand};
+ghost use Rattle.sc_page.specs.Kept.{HasSeen};
 
-use crate::order::listed;
-use sc_base::Text;
+use crate::kept::{PageItem, compare_items};
+use crate::order::{compare_ranks, rank_of};
+use sc_base::Seq;
 use sc_item::Item;
 use std::alloc::{AllocError, Global};
 
-#[tactic(auto, unfolding(crate::specs::Page::page_start))]
-fn start_text() -> &'static str
-    ensures { result.now ≡ page_start }
-{
-    "{\"type\":\"FeatureCollection\",\"features\":["
+/// The least number of items that wait before they are sorted into the page.
+const LEAST_STEP: usize = 1024;
+
+/// The page of the items so far. An item that can't stand on it costs one comparison, and nothing of it is kept.
+#[derive(Drop)]
+pub struct PageSoFar {
+    limit: usize,
+    /// The page of the first of the items.
+    page: Vec<PageItem>,
+    /// Those of the items since then that may stand on that page.
+    waiting: Vec<PageItem>,
 }
 
-#[tactic(auto, unfolding(crate::specs::Page::page_middle))]
-fn middle_text() -> &'static str
-    ensures { result.now ≡ page_middle }
+/// The last item of a page that is full.
+fn last_of_full(page: &[PageItem], limit: usize) -> Option<&PageItem>
+    ensures { option_map (λ i. i.now) result ≡ last_of_full limit page.now }
 {
-    "],\"numberReturned\":"
-}
-
-#[tactic(auto, unfolding(crate::specs::Page::page_end))]
-fn end_text() -> &'static str
-    ensures { result.now ≡ page_end }
-{
-    ",\"links\":[]}"
-}
-
-/// Writes each document behind a comma at the end of a text.
-fn push_more(text: &mut String, items: &[&Item]) -> Result<(), AllocError>
-    ensures { OnOk result (string_bytes text.new ≡ string_bytes text.old ++ flat_map (λ i. 44 ∷ i.doc) (map (λ i. i.now) items.now)) }
-{
-    for item in items {
-        text.push(',')?;
-        text.push_str(item.doc().as_str())?;
+    if page.len() < limit {
+        return None;
     }
-    Ok(())
+    page.last()
 }
 
-/// Writes the documents between commas at the end of a text.
-fn push_documents(text: &mut String, items: &[&Item]) -> Result<(), AllocError>
-    ensures { OnOk result (string_bytes text.new ≡ string_bytes text.old ++ documents (map (λ i. i.now) items.now)) }
+/// Whether an item may stand on a page: on each that isn't full, and else where it doesn't come after the page's last.
+fn may_stand(last: Option<&PageItem>, item: &Item) -> bool
+    ensures { result ≡ may_stand (option_map (λ i. i.now) last.entry) item.now }
 {
-    let Some((first, rest)) = items.split_first() else {
-        return Ok(());
-    };
-    text.push_str(first.doc().as_str())?;
-    push_more(text, rest)?;
-    Ok(())
+    match last {
+        None => true,
+        Some(last) => !compare_ranks(&rank_of(item), &last.rank()).is_gt(),
+    }
 }
 
-/// The text of the page of these items without links: the documents between commas, and their number.
-pub fn page_text(alloc: Global, page: &[&Item]) -> Result<Text, AllocError>
-    ensures { IfOk result (λ text. text ≡ bare_page_text (map (λ i. i.now) page.now)) }
-{
-    let mut text = String::from_str(alloc, start_text())?;
-    push_documents(&mut text, page)?;
-    text.push_str(middle_text())?;
-    text.push_str(page.len().to_string(alloc)?.as_str())?;
-    text.push_str(end_text())?;
-    Ok(Text::from_string(text))
-}
+impl PageSoFar {
+    /// The page of at most `limit` items of none.
+    pub fn new(alloc: Global, limit: u32) -> PageSoFar
+        ensures { HasSeen limit result [] }
+    {
+        PageSoFar {
+            limit: limit as usize,
+            page: Vec::new(alloc),
+            waiting: Vec::new(alloc),
+        }
+    }
 
-/// The first `limit` of the items in the order of a page, lent. No two items may have one name.
-pub fn flat_page(alloc: Global, items: &[Item], limit: u32) -> Result<Vec<&Item>, AllocError>
-    requires { AreApart items.now }
-    ensures { IfOk result (λ page. IsFlatPage every_item default_order limit items.now (map (λ i. i.now) page.items)) }
-{
-    let mut listed = listed(alloc, items)?;
-    listed.truncate(limit as usize);
-    Ok(listed)
+    /// Sorts the items that wait into the page.
+    fn settle(&mut self) -> Result<(), AllocError>
+        ensures { OnOk result ((limit : ℕ) (items : List Feature) → AreApart items → HasSeen limit self.old items → HasSeen limit self.new items × IsFlatPage every_item default_order limit items self.new.page.items) }
+    {
+        self.page.append(&mut self.waiting)?;
+        self.page.sort_by(|a, b| compare_items(a, b))?;
+        self.page.truncate(self.limit);
+        Ok(())
+    }
+
+    /// Makes this the page of one item more, which has the name of none before it.
+    pub fn add(&mut self, alloc: Global, item: &Item) -> Result<(), AllocError>
+        ensures { OnOk result ((limit : ℕ) (items : List Feature) → AreApart (items ++ item.now ∷ []) → HasSeen limit self.old items → HasSeen limit self.new (items ++ item.now ∷ [])) }
+    {
+        if !may_stand(last_of_full(&self.page, self.limit), item) {
+            return Ok(());
+        }
+        self.waiting.push(PageItem::of(alloc, item)?)?;
+        if self.waiting.len() >= self.limit.max(LEAST_STEP) {
+            self.settle()?;
+        }
+        Ok(())
+    }
+
+    /// The first `limit` of the items in the order of a page.
+    pub fn into_items(mut self) -> Result<Seq<PageItem>, AllocError>
+        ensures { IfOk result (λ page. (limit : ℕ) (items : List Feature) → AreApart items → HasSeen limit self items → IsFlatPage every_item default_order limit items page) }
+    {
+        self.settle()?;
+        Ok(Seq::of(self.page))
+    }
 }

@@ -1,4 +1,4 @@
-use crate::{flat_page, page_text};
+use crate::{PageSoFar, page_text};
 use sc_item::{Item, first_repeat, read_line};
 use std::alloc::{AllocError, Global};
 use std::test::Fail;
@@ -26,7 +26,11 @@ fn a_page_has_the_latest_items(rt: HostRuntime) -> Result<(), Fail> {
     if let Some(_) = first_repeat(alloc, items.as_slice())? {
         panic!(rt; "two of the items have one name");
     }
-    let page = flat_page(alloc, items.as_slice(), 2)?;
+    let mut so_far = PageSoFar::new(alloc, 2);
+    for item in &items {
+        so_far.add(alloc, item)?;
+    }
+    let page = so_far.into_items()?;
     assert_eq!(rt;
         page_text(alloc, page.as_slice())?.as_str(),
         "{\"type\":\"FeatureCollection\",\"features\":[{\"type\":\"Feature\",\"collection\":\"s2\",\"id\":\"a\",\"geometry\":null,\"properties\":{\"datetime\":\"2024-01-02T00:00:00Z\"}},{\"type\":\"Feature\",\"collection\":\"s2\",\"id\":\"b\",\"geometry\":null,\"properties\":{\"datetime\":\"2024-01-02T00:00:00Z\"}}],\"numberReturned\":2,\"links\":[]}"

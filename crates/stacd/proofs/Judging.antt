@@ -1,5 +1,5 @@
 -- Reading items line by line, and what is told of the first bad line.
-use Rattle.std.proofs.Common.{◌≡◌, ℕ, ◌+◌, ◌-◌, ◌^◌, ◌<◌, ◌≤◌, zero, suc, Bool, true, false, ◌⊎◌, inl, inr, List, [], ◌∷◌, ◌++◌, length, take, refl, sym, ◌∙◌, ap, subst, arith, append_assoc, append-nil}
+use Rattle.std.proofs.Common.{◌≡◌, ℕ, ◌+◌, ◌-◌, ◌^◌, ◌<◌, ◌≤◌, Bool, true, false, ◌⊎◌, inl, inr, List, [], ◌∷◌, ◌++◌, length, refl, sym, ◌∙◌, ap, subst, arith, append_assoc, append-nil}
 use Rattle.std.specs.Bool.{MatchBool}
 use Rattle.std.specs.List.{AllZip, concat}
 use Rattle.std.proofs.lemmas.Bool.{cases_lt}
@@ -7,10 +7,16 @@ use Rattle.std.proofs.lemmas.List.{length-append}
 use Rattle.sc_outside.specs.Lines.{lines_to_read, without_feed}
 use Rattle.sc_item.specs.Feature.{Feature}
 use Rattle.sc_item.specs.Line.{IsLine}
-use Rattle.sc_item.specs.Names.{AreApart, IsFirstRepeat}
+use Rattle.sc_item.specs.Names.{AreApart}
 use Rattle.sc_item.proofs.Lines.{one_item}
 use Rattle.sc_item.proofs.Apart.{apart_front}
-use Rattle.stacd.specs.Lines.{AreSpelled, AreItems, StopAt, IsFirstBad}
+use Rattle.sc_page.specs.Kept.{HasSeen}
+use Rattle.sc_page.specs.Order.{default_order}
+use Rattle.sc_page.specs.Page.{every_item, IsFlatPage}
+use Rattle.sc_page.specs.declared.page.PageSoFar.{PageSoFar}
+use Rattle.stacd.specs.Lines.{AreSpelled, AreItems, ArePaged, IsFirstBad}
+use Rattle.stacd.specs.Names.{AreNamesOf}
+use Rattle.stacd.specs.declared.names.Names.{Names}
 
 abbrev Spells : List ℕ → Feature → Type 0
 Spells line item = IsLine (without_feed line) item
@@ -57,7 +63,7 @@ one_list (l ∷ ls) (x ∷ xs) (y ∷ ys) p q =
     let f : xs ≡ ys = one_list ls xs ys p.1 q.1 in
     cc
 
-pub so_far_start : (all : Bool) (bytes : List ℕ) → SoFar all bytes bytes []
+so_far_start : (all : Bool) (bytes : List ℕ) → SoFar all bytes bytes []
 so_far_start all bytes = record {
   before = [];
   split = refl;
@@ -65,8 +71,16 @@ so_far_start all bytes = record {
   are = record { each = tt; few = omega arith; short = omega arith };
 }
 
-pub so_far_end : (all : Bool) (bytes rest : List ℕ) (items : List Feature) → SoFar all bytes rest items → lines_to_read all rest ≡ [] → AreSpelled (lines_to_read all bytes) items
+so_far_end : (all : Bool) (bytes rest : List ℕ) (items : List Feature) → SoFar all bytes rest items → lines_to_read all rest ≡ [] → AreSpelled (lines_to_read all bytes) items
 so_far_end all bytes rest items s e = subst (λ t. AreSpelled t items) (sym (s.split ∙ ap (λ t. s.before ++ t) e ∙ append-nil s.before)) s.are
+
+-- the same, with what is kept of the items
+pub record Judged (all : Bool) (bytes rest : List ℕ) (count limit : ℕ) (names : Names) (page : PageSoFar) : Type 0 where
+  pub items : List Feature
+  pub read : SoFar all bytes rest items
+  pub number : length items ≡ count
+  pub named : AreNamesOf names items
+  pub paged : HasSeen limit page items
 
 module _ (all : Bool) (bytes rest line after : List ℕ) (items : List Feature) (s : SoFar all bytes rest items) (next : lines_to_read all rest ≡ line ∷ lines_to_read all after) (parts : rest ≡ line ++ after) where
   count : length items ≡ length s.before
@@ -81,7 +95,7 @@ module _ (all : Bool) (bytes rest line after : List ℕ) (items : List Feature) 
   size : length (concat (s.before ++ line ∷ [])) + length after ≡ length bytes
   size = sym (ap length whole' ∙ length-append (concat (s.before ++ line ∷ [])) after)
 
-  pub so_far_more : (item : Feature) → Spells line item → length items < 1000000 → length bytes - length after ≤ 2 ^ 28 → SoFar all bytes after (items ++ item ∷ [])
+  so_far_more : (item : Feature) → Spells line item → length items < 1000000 → length bytes - length after ≤ 2 ^ 28 → SoFar all bytes after (items ++ item ∷ [])
   so_far_more item spelled few short = record {
     before = s.before ++ line ∷ [];
     split = s.split ∙ ap (λ t. s.before ++ t) next ∙ sym (append_assoc s.before (line ∷ []) (lines_to_read all after));
@@ -93,24 +107,75 @@ module _ (all : Bool) (bytes rest line after : List ℕ) (items : List Feature) 
     };
   }
 
-  stop : ((more : List Feature) → AreSpelled (s.before ++ line ∷ []) more → ⊥) → StopAt (lines_to_read all bytes) items
-  stop bad = record {
+  first_bad : (n : ℕ) → n ≡ length items + 1 → AreApart items → ((more : List Feature) → AreItems (s.before ++ line ∷ []) more → ⊥) → IsFirstBad (lines_to_read all bytes) n
+  first_bad n e apart bad = record {
     before = s.before;
     line = line;
     after = lines_to_read all after;
     place = s.split ∙ ap (λ t. s.before ++ t) next;
-    good = s.are;
+    number = e ∙ ap (λ t. t + 1) count;
+    good = (items, record { spelled = s.are; apart = apart });
     bad = bad;
   }
 
-  pub stop_if_no_item : ((item : Feature) → Spells line item → ⊥) → StopAt (lines_to_read all bytes) items
-  stop_if_no_item none = stop (λ more are. let r = last_of s.before line more are.each in none r.0 r.1)
+  only_these : (more : List Feature) (item : Feature) → Spells line item → AllZip Spells (s.before ++ line ∷ []) more → more ≡ items ++ item ∷ []
+  only_these more item spelled each = one_list (s.before ++ line ∷ []) more (items ++ item ∷ []) each (zip_push s.before items line item s.are.each spelled)
 
-  pub stop_if_many : 1000000 ≤ length items → StopAt (lines_to_read all bytes) items
-  stop_if_many many = stop (λ more are. absurd (omega (arith, count, many, are.few, length-append s.before (line ∷ []))))
+-- at most so many lines were judged
+pub counted : (all : Bool) (bytes rest : List ℕ) (n limit : ℕ) (names : Names) (page : PageSoFar) → Judged all bytes rest n limit names page → n ≤ 1000000
+counted all bytes rest n limit names page j = let e = as_many j.read.before j.items j.read.are.each in omega (arith, e, j.number, j.read.are.few)
 
-  pub stop_if_long : 2 ^ 28 < length bytes - length after → StopAt (lines_to_read all bytes) items
-  stop_if_long long = stop (λ more are. absurd (omega (arith, size, long, are.short)))
+-- what is told of the line behind those that were judged
+module _ (all : Bool) (bytes rest line after : List ℕ) (count limit : ℕ) (names : Names) (page : PageSoFar) (j : Judged all bytes rest count limit names page) (next : lines_to_read all rest ≡ line ∷ lines_to_read all after)
+    (parts : rest ≡ line ++ after) where
+  module _ (n : ℕ) (e : n ≡ count + 1) where
+    bad_line : ((more : List Feature) → AreItems (j.read.before ++ line ∷ []) more → ⊥) → IsFirstBad (lines_to_read all bytes) n
+    bad_line = first_bad all bytes rest line after j.items j.read next parts n (e ∙ ap (λ t. t + 1) (sym j.number)) j.named.apart
+
+    lines_before : length j.items ≡ length j.read.before
+    lines_before = as_many j.read.before j.items j.read.are.each
+
+    pub bad_if_no_item : ((item : Feature) → Spells line item → ⊥) → IsFirstBad (lines_to_read all bytes) n
+    bad_if_no_item none = bad_line (λ more are. let r = last_of j.read.before line more are.spelled.each in none r.0 r.1)
+
+    pub bad_if_repeated : (item : Feature) → Spells line item → (AreApart (j.items ++ item ∷ []) → ⊥) → IsFirstBad (lines_to_read all bytes) n
+    bad_if_repeated item spelled repeated =
+        bad_line (λ more are. repeated (subst AreApart (only_these all bytes rest line after j.items j.read next parts more item spelled are.spelled.each) are.apart))
+
+    pub bad_if_many : 1000000 ≤ count → IsFirstBad (lines_to_read all bytes) n
+    bad_if_many many = bad_line (λ more are. absurd (omega (arith, lines_before, j.number, many, are.spelled.few, length-append j.read.before (line ∷ []))))
+
+    pub bad_if_long : 2 ^ 28 < length bytes - length after → IsFirstBad (lines_to_read all bytes) n
+    bad_if_long long = bad_line (λ more are. absurd (omega (arith, size all bytes rest line after j.items j.read next parts, long, are.spelled.short)))
+
+  pub judged_more : (item : Feature) (names' : Names) (page' : PageSoFar) → Spells line item → count < 1000000 → length bytes - length after ≤ 2 ^ 28 → AreNamesOf names' (j.items ++ item ∷ []) → HasSeen limit page' (j.items ++ item ∷ [])
+      → Judged all bytes after (count + 1) limit names' page'
+  judged_more item names' page' spelled few short named paged = record {
+    items = j.items ++ item ∷ [];
+    read = so_far_more all bytes rest line after j.items j.read next parts item spelled (omega (arith, few, j.number)) short;
+    number = length-append j.items (item ∷ []) ∙ ap (λ t. t + 1) j.number;
+    named = named;
+    paged = paged;
+  }
+
+pub judged_start : (all : Bool) (bytes : List ℕ) (limit : ℕ) (names : Names) (page : PageSoFar) → AreNamesOf names [] → HasSeen limit page [] → Judged all bytes bytes 0 limit names page
+judged_start all bytes limit names page named paged = record { items = []; read = so_far_start all bytes; number = refl; named = named; paged = paged }
+
+-- where no line is left, the page is that of the lines
+pub judged_end : (all : Bool) (bytes rest : List ℕ) (count limit : ℕ) (names : Names) (so_far : PageSoFar) (page : List Feature) → Judged all bytes rest count limit names so_far → lines_to_read all rest ≡ []
+    → ((n : ℕ) (items : List Feature) → AreApart items → HasSeen n so_far items → IsFlatPage every_item default_order n items page) → ArePaged (lines_to_read all bytes) limit page
+judged_end all bytes rest _ limit names so_far page j e given = record {
+  items = j.items;
+  are = record { spelled = so_far_end all bytes rest j.items j.read e; apart = j.named.apart };
+  flat = given limit j.items j.named.apart j.paged;
+}
+
+-- what `insert` says of the names, by its answer
+pub named_new : (new : Bool) (A B : Type 0) → new ≡ true → MatchBool new A B → A
+named_new new A B e m = subst (λ b. MatchBool b A B) e m
+
+pub named_old : (new : Bool) (A B : Type 0) → new ≡ false → MatchBool new A B → B
+named_old new A B e m = subst (λ b. MatchBool b A B) e m
 
 -- items of a front of the lines
 front_each : (before rest : List (List ℕ)) (items : List Feature) → AllZip Spells (before ++ rest) items → (front : List Feature) × (back : List Feature) × (items ≡ front ++ back) × AllZip Spells before front
@@ -166,72 +231,3 @@ one_bad_line lines n m a b = by (cases_lt n m) (cases_lt m n)
     by (inl l) y = absurd (not_later lines n m a b l)
     by (inr p) (inl l) = absurd (not_later lines m n b a l)
     by (inr p) (inr q) = omega arith
-
--- the lines before the item at a place, and its line
-record SplitAt (lines : List (List ℕ)) (items : List Feature) (place : ℕ) : Type 0 where
-  pub before : List (List ℕ)
-  pub line : List ℕ
-  pub after : List (List ℕ)
-  pub is : lines ≡ before ++ (line ∷ after)
-  pub many : length before ≡ place
-  pub each : AllZip Spells before (take place items)
-  pub upto : AllZip Spells (before ++ line ∷ []) (take (place + 1) items)
-
-split_at : (lines : List (List ℕ)) (items : List Feature) (place : ℕ) → AllZip Spells lines items → place < length items → SplitAt lines items place
-split_at [] [] place z lt = absurd (omega arith)
-split_at [] (i ∷ items) place z lt = absurd z
-split_at (l ∷ ls) [] place z lt = absurd z
-split_at (l ∷ ls) (i ∷ items) zero z lt = record { before = []; line = l; after = ls; is = refl; many = refl; each = tt; upto = (z.0, tt) }
-split_at (l ∷ ls) (i ∷ items) (suc place) z lt =
-    let r = split_at ls items place z.1 (omega arith) in
-    record {
-      before = l ∷ r.before;
-      line = r.line;
-      after = r.after;
-      is = (λ k. l ∷ r.is k);
-      many = (λ k. suc (r.many k));
-      each = (z.0, r.each);
-      upto = let e : suc place + 1 ≡ suc (place + 1) = omega arith in subst (λ t. AllZip Spells (l ∷ (r.before ++ r.line ∷ [])) (take t (i ∷ items))) (sym e) (z.0, r.upto);
-    }
-
--- the first item whose name is there already stands on the first bad line
-pub repeat_is_bad : (lines before rest : List (List ℕ)) (items : List Feature) (place n : ℕ) → lines ≡ before ++ rest → AreSpelled before items → IsFirstRepeat items place → n ≡ place + 1 → IsFirstBad lines n
-repeat_is_bad lines before rest items place n e s r is =
-    let c = split_at before items place s.each r.within in
-    let f : before ≡ (c.before ++ c.line ∷ []) ++ c.after = c.is ∙ sym (append_assoc c.before (c.line ∷ []) c.after) in
-    record {
-      before = c.before;
-      line = c.line;
-      after = c.after ++ rest;
-      place = e ∙ ap (λ t. t ++ rest) c.is ∙ append_assoc c.before (c.line ∷ c.after) rest;
-      number = is ∙ ap (λ t. t + 1) (sym c.many);
-      good = (
-        take place items,
-        record {
-          spelled = record {
-            each = c.each;
-            few = omega (arith, s.few, ap length c.is, length-append c.before (c.line ∷ c.after));
-            short = omega (arith, s.short, ap (λ t. length (concat t)) c.is, ap length (concat-append c.before (c.line ∷ c.after)), length-append (concat c.before) (concat (c.line ∷ c.after)));
-          };
-          apart = r.before;
-        },
-      );
-      bad = λ more are. r.repeated (subst AreApart (one_list (c.before ++ c.line ∷ []) more (take (place + 1) items) are.spelled.each c.upto) are.apart);
-    }
-
--- so it is where all lines were read, and where they were read up to some line
-pub repeat_found : (all : Bool) (lines : List (List ℕ)) (items : List Feature) (place : ℕ) → MatchBool all (AreSpelled lines items) (StopAt lines items) → IsFirstRepeat items place → IsFirstBad lines (place + 1)
-repeat_found true lines items place s r = repeat_is_bad lines lines [] items place (place + 1) (sym (append-nil lines)) s r refl
-repeat_found false lines items place s r = repeat_is_bad lines s.before (s.line ∷ s.after) items place (place + 1) s.place s.good r refl
-
--- where no name is repeated before it, the line where reading stopped is the first bad one
-pub stop_is_bad : (lines : List (List ℕ)) (items : List Feature) (n : ℕ) → StopAt lines items → AreApart items → n ≡ length items + 1 → IsFirstBad lines n
-stop_is_bad lines items n s apart e = record {
-  before = s.before;
-  line = s.line;
-  after = s.after;
-  place = s.place;
-  number = e ∙ ap (λ t. t + 1) (as_many s.before items s.good.each);
-  good = (items, record { spelled = s.good; apart = apart });
-  bad = λ more are. s.bad more are.spelled;
-}

@@ -1,3 +1,4 @@
 pub mod Judging
+pub mod Naming
 pub mod Ends
 pub mod Numbers

@@ -5,6 +5,8 @@ use Rattle.sc_outside.specs.Lines.{without_feed}
 use Rattle.sc_item.specs.Feature.{Feature}
 use Rattle.sc_item.specs.Line.{IsLine}
 use Rattle.sc_item.specs.Names.{AreApart}
+use Rattle.sc_page.specs.Order.{default_order}
+use Rattle.sc_page.specs.Page.{every_item, IsFlatPage}
 use Rattle.stacd.specs.declared.fault.LineFault.{LineFault}
 use Rattle.stacd.specs.declared.fault.LineFault.TheVariants.{BadLine, OutOfMemory}
 
@@ -19,14 +21,11 @@ pub record AreItems (lines : List (List ℕ)) (items : List Feature) : Type 0 wh
   pub spelled : AreSpelled lines items
   pub apart : AreApart items
 
--- the items are those of the lines before the first that spells none or is past a limit
-pub record StopAt (lines : List (List ℕ)) (items : List Feature) : Type 0 where
-  pub before : List (List ℕ)
-  pub line : List ℕ
-  pub after : List (List ℕ)
-  pub place : lines ≡ before ++ (line ∷ after)
-  pub good : AreSpelled before items
-  pub bad : (more : List Feature) → AreSpelled (before ++ (line ∷ [])) more → ⊥
+-- the lines are items, and this is their page
+pub record ArePaged (lines : List (List ℕ)) (limit : ℕ) (page : List Feature) : Type 0 where
+  pub items : List Feature
+  pub are : AreItems lines items
+  pub flat : IsFlatPage every_item default_order limit items page
 
 -- line n, from 1, is the first that can't stand with those before it
 pub record IsFirstBad (lines : List (List ℕ)) (n : ℕ) : Type 0 where

@@ -5,6 +5,7 @@ mod command;
 mod fault;
 mod laws;
 mod lines;
+mod names;
 mod page;
 mod program;
 mod tell;

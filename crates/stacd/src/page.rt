@@ -8,7 +8,7 @@ ghost use Rattle.stacd.specs.Page.{IsAnswer, EndsOn, PageRan, end_of_fault};
 use crate::fault::LineFault;
 use crate::lines::{MOST_BYTES, judge};
 use sc_outside::{ReadEnd, Seq, Sink, Source, Taken, read_all, write_all};
-use sc_page::{Text, flat_page, page_text};
+use sc_page::{Text, page_text};
 use std::alloc::Global;
 
 /// How a call of `page` ends.
@@ -29,8 +29,7 @@ pub enum PageEnd {
 fn answer(alloc: Global, limit: u32, bytes: Seq<u8>) -> Result<Text, LineFault>
     ensures { MatchResult result (IsAnswer (lines_to_read true bytes) limit) (IsFault (lines_to_read true bytes)) }
 {
-    let items = judge(alloc, bytes, true)?;
-    let page = flat_page(alloc, items.as_slice(), limit)?;
+    let page = judge(alloc, bytes, true, limit)?;
     let mut text = page_text(alloc, page.as_slice())?;
     text.push_str("\n")?;
     Ok(text)
@@ -87,7 +86,7 @@ pub fn page<S: Source, K: Sink>(alloc: Global, limit: u32, source: &mut S, sink:
         Err(_) => return PageEnd::OutOfMemory,
     };
     match end {
-        ReadEnd::Failed => match judge(alloc, bytes, false) {
+        ReadEnd::Failed => match judge(alloc, bytes, false, 0) {
             Ok(_) => PageEnd::ReadFault,
             Err(fault) => end_of(fault),
         },
