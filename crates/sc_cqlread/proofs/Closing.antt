@@ -14,17 +14,8 @@ use Rattle.sc_cqlgrammar.specs.declared.mark.Mark.{Mark}
 use Rattle.sc_cqlgrammar.specs.Rules.{Items, alternatives, IsAlternative}
 use Rattle.sc_cqlgrammar.specs.Reading.{class_of}
 use Rattle.sc_cqlgrammar.proofs.Fitting.{all_is, is_rule}
+use Rattle.sc_cqlgrammar.proofs.Formed.{is_formed, formed_is}
 use Rattle.sc_cqlgrammar.proofs.Readings.{Goes}
-
-abbrev pub is_formed : Class → Bool
-is_formed classes.Bad = false
-is_formed classes.End = false
-is_formed _ = true
-
-pub formed_is : (c : Class) → is_formed c ≡ true → IsFormedClass c
-formed_is classes.Bad e = absurd cc
-formed_is classes.End e = absurd cc
-formed_is _ e = tt
 
 abbrev is_end : Class → Bool
 is_end classes.End = true

@@ -21,7 +21,7 @@ use Rattle.sc_cqlgrammar.proofs.Readings.{taken_is_front, refused_is_none, taken
 use Rattle.sc_cqlread.specs.declared.taking.End.TheVariants.{Whole, Broken, TooDeep}
 use Rattle.sc_cqlread.specs.Tokens.{AreTokensFrom}
 use Rattle.sc_cqlread.specs.Nesting.{level_behind, deepest_from, deepest}
-use Rattle.sc_cqlread.specs.Passing.{Stops, Takes, Reads}
+use Rattle.sc_cqlread.specs.Passing.{IsRefused, Takes, Reads}
 use Rattle.sc_cqlread.specs.Reading.{Reading, start, eats, does}
 use Rattle.sc_cqlread.specs.Filters.{whole}
 use Rattle.sc_cqlread.specs.Ends.{Ends}
@@ -148,7 +148,7 @@ module _ (chars : List ℕ) (w : Bool) (place level : ℕ) (items : Items) (made
           (let e = nests next next_is f.0 in omega (arith, e, high, at_least next f.0))
 
   -- the token is refused, and nothing nests too deep from it on
-  pub token_refused : (m : Reading) → place ≤ length chars → Stops Reading (does chars) items made token m → ((tokens : List Token) → AreTokensFrom chars w place tokens → deepest_from level tokens ≤ 64) → Ends chars w (Broken token.from) m
+  pub token_refused : (m : Reading) → place ≤ length chars → IsRefused Reading (does chars) items made token m → ((tokens : List Token) → AreTokensFrom chars w place tokens → deepest_from level tokens ≤ 64) → Ends chars w (Broken token.from) m
   token_refused m within stops h =
       let p = some_tokens chars w place within in
       let f = first_is chars w place p.0 token p.1 is in

@@ -15,8 +15,8 @@ use Rattle.sc_cqlgrammar.specs.Machine.{IsStuck}
 use Rattle.sc_cqlgrammar.proofs.Picking.{same_is}
 use Rattle.sc_cqlgrammar.proofs.Fitting.{fits, picks, picks_nothing, is_rule, empties}
 use Rattle.sc_cqlgrammar.proofs.Readings.{Goes, Run}
-use Rattle.sc_cqlread.specs.Fronts.{Begins, begun, token, mark, rule, IsAtRest}
-use Rattle.sc_cqlread.specs.Passing.{Passes, stands, marked, opened, Stops}
+use Rattle.sc_cqlread.specs.Fronts.{DerivesSoFar, begun, token, mark, rule, IsAtRest}
+use Rattle.sc_cqlread.specs.Passing.{Passes, stands, marked, opened, IsRefused}
 
 begins_with : (n : Rule) (a : Items) → IsAlternative n a → (c : Class) → In c (firsts starts is_empty a) → In c (starts n)
 begins_with n a r =
@@ -53,7 +53,7 @@ safe_in n a is r safe = safe-append n a is (followed n a r) safe.0 safe.1
 
 module _ (S : Type 0) (eats : Token → S → S) (does : Mark → S → S) where
   abbrev pub Begin : Items → S → List Token → Items → S → Type 0
-  Begin = Begins S eats does
+  Begin = DerivesSoFar S eats does
 
   -- the first token is of a class that may come first
   first_in : (is : Items) (s : S) (us : List Token) (js : Items) (m : S) → Begin is s us js m → (t : Token) (ts : List Token) → us ≡ t ∷ ts → In (class_of t) (firsts starts is_empty is)
@@ -134,7 +134,7 @@ module _ (S : Type 0) (eats : Token → S → S) (does : Mark → S → S) where
   stuck_rests (non n ∷ js) c h = tt
   stuck_rests (act k ∷ js) c h = h
 
-  pub stop_begins : (is : Items) (s : S) (ts : List Token) (js : Items) (m : S) → Run S eats does is s ts js m → (t : Token) (n : S) → Stops S does js m t n → (ks : Items) × Begin is s ts ks n × IsAtRest ks
+  pub stop_begins : (is : Items) (s : S) (ts : List Token) (js : Items) (m : S) → Run S eats does is s ts js m → (t : Token) (n : S) → IsRefused S does js m t n → (ks : Items) × Begin is s ts ks n × IsAtRest ks
   stop_begins is s ts js m r t n stop = (
     stop.0,
     subst (λ (x : List Token). Begin is s x stop.0 n) (append-nil ts) (runs_begin is s ts js m r [] stop.0 n (passes_begins js m t stop.0 n stop.1)),

@@ -10,7 +10,7 @@ use Rattle.sc_cqlgrammar.specs.Table.{predict}
 use Rattle.sc_cqlgrammar.specs.Reading.{class_of, Nothing, stays as keeps, Takes, Refuse, TakesAll}
 use Rattle.sc_cqlgrammar.specs.Machine.{Opens, as_is, opened as opened_rule, IsStuck}
 use Rattle.sc_cqlgrammar.proofs.Readings.{Goes, Run}
-use Rattle.sc_cqlread.specs.Passing.{Passes, stands, marked, opened, Stops}
+use Rattle.sc_cqlread.specs.Passing.{Passes, stands, marked, opened, IsRefused}
 
 abbrev some : Items → Option Items
 some x = Some x
@@ -50,7 +50,7 @@ module _ (S : Type 0) (eats : Token → S → S) (does : Mark → S → S) where
       (passes_then is s t js m p (tok (class_of t) ∷ ks) m (opens_passes js (class_of t) (tok (class_of t) ∷ ks) o m t refl))
       ks refl
 
-  pub passes_stop : (is : Items) (s : S) (t : Token) (js : Items) (m : S) → Passes S does is s t js m → (ks : Items) → Opens js (class_of t) ks → IsStuck ks (class_of t) → Stops S does is s t m
+  pub passes_stop : (is : Items) (s : S) (t : Token) (js : Items) (m : S) → Passes S does is s t js m → (ks : Items) → Opens js (class_of t) ks → IsStuck ks (class_of t) → IsRefused S does is s t m
   passes_stop is s t js m p ks o stuck = (ks, passes_then is s t js m p ks m (opens_passes js (class_of t) ks o m t refl), stuck)
 
   -- ---- a token that is refused isn't taken
@@ -96,7 +96,7 @@ module _ (S : Type 0) (eats : Token → S → S) (does : Mark → S → S) where
   plain_goes _ _ _ _ _ (marks k is o t js p g) s = let h = plain_goes is o t js p g (does k s) in (h.0, marks k is s t js h.0 h.1)
   plain_goes _ _ _ _ _ (opens n a is o t js p e g) s = let h = plain_goes (a ++ is) o t js p g s in (h.0, opens n a is s t js h.0 e h.1)
 
-  pub stop_refuses_plain : (is : Items) (s : S) (t : Token) (m : S) → Stops S does is s t m → Refuse is t
+  pub stop_refuses_plain : (is : Items) (s : S) (t : Token) (m : S) → IsRefused S does is s t m → Refuse is t
   stop_refuses_plain is s t m h js p g =
       let v = plain_goes is tt t js p g s in
       stop_refuses is s t h.0 m h.1 h.2 js v.0 v.1

@@ -9,4 +9,6 @@ pub mod Course
 pub mod Answered
 pub mod Unique
 mod Answers
+mod Finishing
+mod Forming
 pub mod Total

@@ -14,7 +14,7 @@ use Rattle.sc_cqlgrammar.specs.Table.{is_empty}
 use Rattle.sc_cqlgrammar.specs.Reading.{class_of}
 use Rattle.sc_cqlgrammar.proofs.Fitting.{all_is, is_rule, empties}
 use Rattle.sc_cqlgrammar.proofs.Readings.{Goes, Run}
-use Rattle.sc_cqlread.specs.Fronts.{Begins, begun, token, mark, rule, IsAtRest}
+use Rattle.sc_cqlread.specs.Fronts.{DerivesSoFar, begun, token, mark, rule, IsAtRest}
 
 -- whether the mark notes no literal
 abbrev pub is_quiet : Mark → Bool
@@ -200,7 +200,7 @@ module _ (S : Type 0) (eats : Token → S → S) (does : Mark → S → S) where
 
   -- what is noted, which quiet marks don't change
   module _ (Noted : Type 0) (noted : S → Noted) (keeps : (k : Mark) (s : S) → is_quiet k ≡ true → noted (does k s) ≡ noted s) where
-    hushed_keeps : (is : Items) (s : S) (ts : List Token) (js : Items) (m : S) → Begins S eats does is s ts js m → ts ≡ [] → is_hushed is ≡ true → noted m ≡ noted s
+    hushed_keeps : (is : Items) (s : S) (ts : List Token) (js : Items) (m : S) → DerivesSoFar S eats does is s ts js m → ts ≡ [] → is_hushed is ≡ true → noted m ≡ noted s
     hushed_keeps _ _ _ _ _ (begun is s) e h = refl
     hushed_keeps _ _ _ _ _ (token t is s ts js m b) e h = absurd cc
     hushed_keeps _ _ _ _ _ (mark k is s ts js m b) e h =
@@ -214,7 +214,7 @@ module _ (S : Type 0) (eats : Token → S → S) (does : Mark → S → S) where
     noted_next (non n ∷ is) s = noted s
     noted_next (act k ∷ is) s = noted_next is (does k s)
 
-    pub settled_keeps : (is : Items) (s : S) (ts : List Token) (js : Items) (m : S) → Begins S eats does is s ts js m → ts ≡ [] → IsAtRest js → is_hushed (unmarked is) ≡ true → noted m ≡ noted_next is s
+    pub settled_keeps : (is : Items) (s : S) (ts : List Token) (js : Items) (m : S) → DerivesSoFar S eats does is s ts js m → ts ≡ [] → IsAtRest js → is_hushed (unmarked is) ≡ true → noted m ≡ noted_next is s
     settled_keeps _ _ _ _ _ (begun [] s) e r h = refl
     settled_keeps _ _ _ _ _ (begun (tok c ∷ is) s) e r h = refl
     settled_keeps _ _ _ _ _ (begun (non n ∷ is) s) e r h = refl

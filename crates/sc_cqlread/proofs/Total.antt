@@ -17,6 +17,8 @@ use Rattle.sc_cqlgrammar.proofs.Picking.{same_is}
 use Rattle.sc_cqlgrammar.proofs.Opening.{need, opening_needs_less}
 use Rattle.sc_cqlgrammar.proofs.Readings.{Goes}
 use Rattle.sc_expr.specs.declared.expr.Expr.{Expr}
+use Rattle.sc_expr.specs.Form.{IsFormed}
+use Rattle.sc_expr.specs.Measure.{depth, nodes}
 use Rattle.sc_cqlvalue.specs.Values as values
 use Rattle.sc_cqlvalue.proofs.Wholes.{one_left}
 use Rattle.sc_cqlread.specs.declared.fault.CqlFault.{CqlFault}
@@ -25,11 +27,12 @@ use Rattle.sc_cqlread.specs.declared.taking.End.{End}
 use Rattle.sc_cqlread.specs.declared.taking.End.TheVariants.{Whole, Broken, TooDeep}
 use Rattle.sc_cqlread.specs.Tokens.{readable, is_readable}
 use Rattle.sc_cqlread.specs.Nesting.{level_behind, deepest_from}
-use Rattle.sc_cqlread.specs.Passing.{stands, marked, opened, Stops}
+use Rattle.sc_cqlread.specs.Passing.{stands, marked, opened, IsRefused}
 use Rattle.sc_cqlread.specs.Reading.{Reading, start, eats, does, drawn, bad_of}
 use Rattle.sc_cqlread.specs.Filters.{whole, Makes, IsExpr}
 use Rattle.sc_cqlread.specs.Ends.{Ends}
 use Rattle.sc_cqlread.specs.Faults.{IsFault}
+use Rattle.sc_cqlread.proofs.Forming.{makes_formed}
 use Rattle.sc_cqlread.proofs.Unique.{tokens_one}
 use Rattle.sc_cqlread.proofs.Course.{SoFar, at_first, some_tokens, formed_within, token_taken, end_taken, too_deep, level_too_deep, token_refused, taken_comes}
 
@@ -54,10 +57,10 @@ module _ (S : Type 0) (eats : Token → S → S) (does : Mark → S → S) where
   abbrev Goes_on : Items → S → Token → Type 0
   Goes_on is s t = (js : Items) × (m : S) × Goes S eats does is s t js m
 
-  abbrev Is_refused : Items → S → Token → Type 0
-  Is_refused is s t = (m : S) × Stops S does is s t m
+  abbrev Some_refusal : Items → S → Token → Type 0
+  Some_refusal is s t = (m : S) × IsRefused S does is s t m
 
-  pub taken_or_refused : (fuel : ℕ) (is : Items) (s : S) (t : Token) → need is < fuel → Goes_on is s t ⊎ Is_refused is s t
+  pub taken_or_refused : (fuel : ℕ) (is : Items) (s : S) (t : Token) → need is < fuel → Goes_on is s t ⊎ Some_refusal is s t
   taken_or_refused zero is s t lt = absurd (omega (arith, lt))
   taken_or_refused (suc fuel) [] s t lt = inr (s, ([], stands [] s t, tt))
   taken_or_refused (suc fuel) (tok c ∷ is) s t lt =
@@ -140,8 +143,21 @@ one_expr chars ts made m =
     let p = one_left Reading (eats chars) (does chars) chars (λ (r : Reading). r.values) (values_eaten chars) (values_marked chars) (values_drawn chars) start ts made refl m in
     (p.0, p.1.exprs)
 
+-- ---- each text has an answer
+
 abbrev pub IsAnswered : List ℕ → Type 0
-IsAnswered text = ((expr : Expr) × IsExpr text expr) ⊎ ((fault : CqlFault) × (fault ≢ faults.OutOfMemory) × IsFault text fault)
+IsAnswered text =
+    ((expr : Expr) × IsExpr text expr × IsFormed expr × (depth expr ≤ 24) × (nodes expr ≤ 1024)) ⊎ ((fault : CqlFault) × (fault ≢ faults.OutOfMemory) × IsFault text fault)
+
+by_measure : (text : List ℕ) (expr : Expr) → IsExpr text expr → IsFormed expr → IsAnswered text
+by_measure text expr is formed =
+    elim (le-or-lt (depth expr) 24) [
+      | inl shallow ↦ elim (le-or-lt (nodes expr) 1024) [
+        | inl few ↦ inl (expr, is, formed, shallow, few)
+        | inr many ↦ inr (faults.TooManyNodes, (λ (x : faults.TooManyNodes ≡ faults.OutOfMemory). cc), record { expr = expr; is = is; shallow = shallow; many = many })
+      ]
+      | inr deep ↦ inr (faults.TooDeep, (λ (x : faults.TooDeep ≡ faults.OutOfMemory). cc), inr (record { expr = expr; is = is; deep = deep }))
+    ]
 
 by_end : (text : List ℕ) (end : End) (made : Reading) → Ends (readable text) (is_readable text) end made → (bad : Option ℕ) → bad_of made ≡ bad → IsAnswered text
 by_end text TooDeep made e bad h = inr (faults.TooDeep, (λ (x : faults.TooDeep ≡ faults.OutOfMemory). cc), inl (record { tokens = e.0; are = e.1; deep = e.2 }))
@@ -153,9 +169,10 @@ by_end text Whole made e (Some p) h =
     inr (faults.BadLiteral p, (λ (x : faults.BadLiteral p ≡ faults.OutOfMemory). cc), record { tokens = e.0; made = made; are = e.1; shallow = e.2; comes = inl e.3; bad = h })
 by_end text Whole made e None h =
     let one = one_expr (readable text) e.0 made e.3 in
-    inl (one.0, record { tokens = e.0; made = made; are = e.1; shallow = e.2; makes = e.3; sound = h; alone = one.1 })
+    by_measure text one.0 (record { tokens = e.0; made = made; are = e.1; shallow = e.2; makes = e.3; sound = h; alone = one.1 })
+    (makes_formed (readable text) e.0 made one.0 e.3 one.1)
 
--- each text is an expression or has a fault
+-- each text is an expression that is formed, shallow and small, or has a fault
 pub answered : (text : List ℕ) → IsAnswered text
 answered text =
     let x = each_ends (readable text) (is_readable text) in

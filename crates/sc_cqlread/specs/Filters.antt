@@ -12,7 +12,7 @@ use Rattle.sc_expr.specs.declared.expr.Expr.{Expr}
 use Rattle.sc_expr.specs.Filter.{IsFilter}
 use Rattle.sc_cqlread.specs.Tokens.{readable, AreTokens}
 use Rattle.sc_cqlread.specs.Nesting.{deepest}
-use Rattle.sc_cqlread.specs.Fronts.{Begins, IsAtRest}
+use Rattle.sc_cqlread.specs.Fronts.{DerivesSoFar, IsAtRest}
 use Rattle.sc_cqlread.specs.Reading.{Reading, start, eats, does, bad_of}
 
 -- a filter and the end of the text
@@ -26,7 +26,7 @@ Makes chars tokens made = Derives Token Class Rule Mark Reading class_of (eats c
 -- the tokens are read as a front of a filter, as far as they go, and what they make
 pub record BeginsAs (chars : List ℕ) (before : List Token) (made : Reading) : Type 0 where
   pub items : Items
-  pub begun : Begins Reading (eats chars) (does chars) whole start before items made
+  pub begun : DerivesSoFar Reading (eats chars) (does chars) whole start before items made
   pub at_rest : IsAtRest items
 
 -- the tokens before one are a front of a filter, and with it they are none: the place where it stands, and what those

@@ -4,7 +4,7 @@ use Rattle.sc_wkt.specs.Kept.{IsDrawing}
 use Rattle.sc_cqlread.specs.declared.reading.Reading as kept
 use Rattle.sc_cqlread.specs.Reading.{Reading}
 
-pub record IsReading (reading : kept.Reading) (r : Reading) : Type 0 where
+pub record Holds (reading : kept.Reading) (r : Reading) : Type 0 where
   pub values_are : reading.values ≡ r.values
   pub drawing_is : IsDrawing reading.drawing r.drawing
   pub word_is : reading.word ≡ r.word

@@ -1,14 +1,7 @@
 -- How deep the parentheses of tokens nest.
-use Rattle.std.specs.Prelude.{ℕ, ◌+◌, ◌-◌, max, List, [], ◌∷◌}
-use Rattle.sc_grammar.specs.declared.token.Class.{Class}
-use Rattle.sc_grammar.specs.declared.token.Class.TheVariants as classes
+use Rattle.std.specs.Prelude.{ℕ, max, List, [], ◌∷◌}
 use Rattle.sc_grammar.specs.declared.token.Token.{Token}
-
--- how many parentheses are open behind a token; one that closes where none is open closes nothing
-abbrev pub level_behind : Class → ℕ → ℕ
-level_behind classes.Opening level = level + 1
-level_behind classes.Closing level = level - 1
-level_behind _ level = level
+pub use Rattle.sc_wkt.specs.Levels.{level_behind}
 
 -- the most that are open at once, where so many are at the front
 abbrev pub deepest_from : ℕ → List Token → ℕ

@@ -19,8 +19,8 @@ pub data Passes (S : Type 0) (does : Mark → S → S) : Items → S → Token �
   opened : (n : Rule) (a is : Items) (s : S) (t : Token) (js : Items) (m : S) → predict n (class_of t) ≡ Some a → Passes S does (a ++ is) s t js m → Passes S does (non n ∷ is) s t js m
 
 -- and then no rule can be opened, and the token isn't the one that is to come: the state that is left
-abbrev pub Stops : (S : Type 0) (does : Mark → S → S) → Items → S → Token → S → Type 0
-Stops S does is s t m = (js : Items) × Passes S does is s t js m × IsStuck js (class_of t)
+abbrev pub IsRefused : (S : Type 0) (does : Mark → S → S) → Items → S → Token → S → Type 0
+IsRefused S does is s t m = (js : Items) × Passes S does is s t js m × IsStuck js (class_of t)
 
 -- the machine takes a token: what is to come and what was made before it, and behind it
 abbrev pub Takes : List ℕ → Items → Reading → Token → Items → Reading → Type 0

@@ -1,6 +1,6 @@
 -- What the tokens and the marks of a filter's grammar make of what was read (OGC 21-065r2, Annex B): the values, and beside
 -- them the geometry that is drawn, and the literals that can't be read.
-use Rattle.std.specs.Prelude.{ℕ, min, List, Option, Some, None, Result, Ok, Err, if◌then◌else◌}
+use Rattle.std.specs.Prelude.{◌≡◌, ℕ, min, List, false, Option, Some, None, Result, Ok, Err, if◌then◌else◌}
 use Rattle.std.specs.Option.{option_or}
 use Rattle.sc_geom.specs.declared.point.Pt.{Pt}
 use Rattle.sc_geom.specs.Building.{settled}
@@ -9,7 +9,7 @@ use Rattle.sc_geom.specs.Sketch.{Sketch}
 use Rattle.sc_grammar.specs.declared.token.Token.{Token}
 use Rattle.sc_cqlgrammar.specs.declared.mark.Mark.{Mark}
 use Rattle.sc_cqlgrammar.specs.declared.mark.Mark.TheVariants as marks
-use Rattle.sc_wkt.specs.Drawing.{Drawing, blank, reads, draws, wide_at, is_bad}
+use Rattle.sc_wkt.specs.Drawing.{Drawing, blank, reads, draws, wide_at, is_bad, FailsByMemoryAlone}
 use Rattle.sc_cqlvalue.specs.declared.state.State.{State}
 use Rattle.sc_cqlvalue.specs.Values as values
 
@@ -45,9 +45,13 @@ unless_wide None sketch = Ok (map_shapes settled sketch)
 unless_wide (Some place) sketch = Err place
 
 -- what an outermost geometry is that is whole. One that is bad is refused at its first word. Where a number was too wide, in
--- it or before it, that one's place stands for it
+-- it or before it, that one's place stands for it: the text is refused for that number then, and the geometry isn't seen
 abbrev pub drawn : Reading → Result (Shapes Pt) ℕ
 drawn r = if is_bad 1000 r.drawing then Err (place_of r.word) else unless_wide r.wide r.drawing.sketch
+
+-- the geometry that ends here is finished where it is one, unless memory runs out
+abbrev pub CanEnd : Reading → Type 0
+CanEnd r = is_bad 1000 r.drawing ≡ false → r.wide ≡ None → FailsByMemoryAlone 1000 r.drawing
 
 abbrev pub geometry_begun : Reading → Reading
 geometry_begun r = record r { drawing = blank; word = None }

@@ -1,16 +1,9 @@
 -- The tokens of a text (OGC 21-065r2, Annex B), from its front up to the first byte at which no token can be formed, or up
--- to the end.
-use Rattle.std.specs.Prelude.{◌≡◌, ℕ, List, [], ◌∷◌, length, take, Bool, ◌==◌}
-use Rattle.std.specs.Str.Lossy.{utf8_valid_len}
+-- to the end. `token_at` is the longest token that can be formed, by the law `longest_token` of `sc_grammar`.
+use Rattle.std.specs.Prelude.{◌≡◌, ℕ, List, [], ◌∷◌, Bool}
 use Rattle.sc_grammar.specs.declared.token.Token.{Token}
 use Rattle.sc_grammar.specs.Words.{token_at, IsFormedClass}
-
--- the whole characters at the front: what stands behind them isn't UTF-8
-abbrev pub readable : List ℕ → List ℕ
-readable text = take (utf8_valid_len text) text
-
-abbrev pub is_readable : List ℕ → Bool
-is_readable text = utf8_valid_len text == length text
+pub use Rattle.sc_wkt.specs.Answer.{readable, is_readable}
 
 -- each token is the next one from a place, or behind the token before it. All are formed but the last, which is the byte at
 -- which none can be, or the end

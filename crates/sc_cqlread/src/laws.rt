@@ -1,6 +1,8 @@
 //! What follows from the definitions alone. Each function has an empty body: its clauses are the laws.
-ghost use Rattle.std.specs.Prelude.{◌≡◌, ◌≢◌, ◌⊎◌, ℕ, List};
+ghost use Rattle.std.specs.Prelude.{◌≡◌, ◌≢◌, ◌⊎◌, ◌≤◌, ℕ, List};
 ghost use Rattle.sc_expr.specs.declared.expr.Expr.{Expr};
+ghost use Rattle.sc_expr.specs.Form.{IsFormed};
+ghost use Rattle.sc_expr.specs.Measure.{depth, nodes};
 ghost use Rattle.sc_cqlread.specs.declared.fault.CqlFault.{CqlFault};
 ghost use Rattle.sc_cqlread.specs.declared.fault.CqlFault.TheVariants.{OutOfMemory};
 ghost use Rattle.sc_cqlread.specs.Filters.{IsExpr, IsCqlText};
@@ -13,7 +15,9 @@ pub fn one_answer()
     ensures fault { (text : List ℕ) (a b : CqlFault) → IsFault text a → IsFault text b → (a ≡ b) ⊎ (a ≡ OutOfMemory) ⊎ (b ≡ OutOfMemory) }
 {}
 
-/// Each text is an expression or has a fault other than want of memory.
+/// Each text is an expression that is formed and within the limits of a filter, or has a fault other than want of memory.
 pub fn some_answer()
-    ensures { (text : List ℕ) → ((expr : Expr) × IsExpr text expr) ⊎ ((fault : CqlFault) × (fault ≢ OutOfMemory) × IsFault text fault) }
+    ensures { (text : List ℕ) →
+        ((expr : Expr) × IsExpr text expr × IsFormed expr × (depth expr ≤ 24) × (nodes expr ≤ 1024)) ⊎
+        ((fault : CqlFault) × (fault ≢ OutOfMemory) × IsFault text fault) }
 {}

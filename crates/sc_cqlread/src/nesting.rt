@@ -1,26 +1,11 @@
-ghost use Rattle.std.specs.Prelude.{◌≡◌, ◌≤◌, ◌<◌, List, length, MatchBool};
+ghost use Rattle.std.specs.Prelude.{◌≤◌, ◌<◌, List, length, MatchBool};
 ghost use Rattle.sc_grammar.specs.declared.token.Token.{Token as TokenRecord};
 ghost use Rattle.sc_grammar.specs.Words.{IsFormedClass};
 ghost use Rattle.sc_cqlread.specs.Tokens.{AreTokensFrom};
-ghost use Rattle.sc_cqlread.specs.Nesting as nesting;
 ghost use Rattle.sc_cqlread.specs.Nesting.{deepest_from};
 
 use sc_grammar::{Class, token_at};
-
-/// The most parentheses that may be open at once.
-pub(crate) const MOST_LEVELS: u32 = 64;
-
-/// How many parentheses are open behind a token; one that closes where none is open closes nothing.
-pub(crate) fn level_behind(class: Class, level: u32) -> u32
-    requires { level ≤ 64 }
-    ensures { result ≡ nesting.level_behind class level }
-{
-    match class {
-        Class::Opening => level + 1,
-        Class::Closing => level.saturating_sub(1),
-        _ => level,
-    }
-}
+use sc_wkt::{MOST_LEVELS, level_behind};
 
 fn is_formed(class: Class) -> bool
     ensures { MatchBool result (IsFormedClass class) (IsFormedClass class → ⊥) }

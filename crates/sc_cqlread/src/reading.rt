@@ -2,10 +2,11 @@ ghost use Rattle.std.specs.Prelude.{◌≡◌, ◌≤◌, [], ◌∷◌, length,
 ghost use Rattle.sc_geom.specs.Shapes.{positions_of};
 ghost use Rattle.sc_expr.specs.declared.expr.Expr.{Expr as ExprOf};
 ghost use Rattle.sc_expr.specs.Form.{IsFormed};
+ghost use Rattle.sc_cqlgrammar.specs.declared.mark.Mark.TheVariants as marks;
 ghost use Rattle.sc_cqlvalue.specs.Values.{finished};
-ghost use Rattle.sc_cqlread.specs.Reading.{Reading as Made, start, eats, does, drawn, bad_of, geometry_begun, geometry_ended, lesser, place_of};
+ghost use Rattle.sc_cqlread.specs.Reading.{Reading as Made, start, eats, does, drawn, bad_of, geometry_begun, geometry_ended, lesser, place_of, CanEnd};
 ghost use Rattle.sc_wkt.specs.Kept.{IsDrawing};
-ghost use Rattle.sc_cqlread.specs.Kept.{IsReading};
+ghost use Rattle.sc_cqlread.specs.Kept.{Holds};
 
 use sc_cqlgrammar::Mark;
 use sc_cqlvalue::Values;
@@ -33,7 +34,7 @@ pub(crate) struct Reading {
 impl Reading {
     /// Nothing was read.
     pub(crate) fn new(alloc: Global) -> Result<Reading, AllocError>
-        ensures { IfOk result (λ reading. IsReading reading start) }
+        ensures { IfOk result (λ reading. Holds reading start) }
     {
         Ok(Reading {
             values: Values::new(alloc),
@@ -47,7 +48,7 @@ impl Reading {
     pub(crate) fn eat(&mut self, text: &[u8], token: Token)
         requires ordered { token.from ≤ token.to }
         requires within { token.to ≤ length text.now }
-        ensures { (r : Made) → IsReading self.old r → IsReading self.new (eats text.now token r) }
+        ensures { (r : Made) → Holds self.old r → Holds self.new (eats text.now token r) }
     {
         self.values.eat(token);
         self.drawing.read(text, token);
@@ -57,8 +58,8 @@ impl Reading {
 
     /// Does what a mark means. Want of memory leaves nothing of use.
     pub(crate) fn mark(&mut self, alloc: Global, text: &[u8], mark: Mark) -> Result<(), AllocError>
-        requires { (r : Made) × IsReading self.old r }
-        ensures { (r : Made) → IsReading self.old r → OnOk result (IsReading self.new (does text.now mark r)) }
+        requires { (r : Made) × Holds self.old r × (mark ≡ marks.Geometry → CanEnd r) }
+        ensures { (r : Made) → Holds self.old r → OnOk result (Holds self.new (does text.now mark r)) }
     {
         match mark {
             Mark::Outermost => self.begin_geometry(alloc),
@@ -71,7 +72,7 @@ impl Reading {
     }
 
     fn begin_geometry(&mut self, alloc: Global) -> Result<(), AllocError>
-        ensures { (r : Made) → IsReading self.old r → OnOk result (IsReading self.new (geometry_begun r)) }
+        ensures { (r : Made) → Holds self.old r → OnOk result (Holds self.new (geometry_begun r)) }
     {
         self.drawing = Drawing::new(alloc)?;
         self.word = None;
@@ -79,8 +80,8 @@ impl Reading {
     }
 
     fn end_geometry(&mut self, alloc: Global) -> Result<(), AllocError>
-        requires { (r : Made) × IsReading self.old r }
-        ensures { (r : Made) → IsReading self.old r → OnOk result (IsReading self.new (geometry_ended r)) }
+        requires { (r : Made) × Holds self.old r × CanEnd r }
+        ensures { (r : Made) → Holds self.old r → OnOk result (Holds self.new (geometry_ended r)) }
     {
         let drawing = mem::replace(&mut self.drawing, Drawing::new(alloc)?);
         let geometry = drawn(drawing, self.word, self.wide)?;
@@ -89,15 +90,15 @@ impl Reading {
 
     /// The least place of a literal that can't be read.
     pub(crate) fn bad(&self) -> Option<u64>
-        ensures { (r : Made) → IsReading self.now r → result ≡ bad_of r }
+        ensures { (r : Made) → Holds self.now r → result ≡ bad_of r }
     {
         lesser(self.values.bad(), self.wide)
     }
 
     /// The one expression, where there is just one.
     pub(crate) fn finish(self) -> Expr
-        requires { (r : Made) × IsReading self r × (expr : ExprOf) × (r.values.exprs ≡ expr ∷ []) }
-        ensures alone { (r : Made) → IsReading self r → r.values.exprs ≡ result ∷ [] }
+        requires { (r : Made) × Holds self r × (expr : ExprOf) × (r.values.exprs ≡ expr ∷ []) }
+        ensures alone { (r : Made) → Holds self r → r.values.exprs ≡ result ∷ [] }
         ensures formed { IsFormed result }
     {
         match self.values.finish() {
@@ -107,13 +108,14 @@ impl Reading {
     }
 }
 
-/// The geometry that is whole, or the place that is noted for it.
+/// The geometry that is whole, or the place that is noted for it: where a number was too wide, also before the geometry, the
+/// text is refused for that one, and the geometry isn't seen.
 fn drawn(
     drawing: Drawing,
     word: Option<usize>,
     wide: Option<u64>,
 ) -> Result<Result<Geom, usize>, AllocError>
-    requires { (r : Made) × IsDrawing drawing r.drawing }
+    requires { (r : Made) × IsDrawing drawing r.drawing × (wide ≡ r.wide) × CanEnd r }
     ensures few { IfOk result (λ geometry. IfOk geometry (λ shapes. length (positions_of shapes) ≤ 1000)) }
     ensures drawn { (r : Made) → IsDrawing drawing r.drawing → word ≡ r.word → wide ≡ r.wide → IfOk result (λ geometry. geometry ≡ drawn r) }
 {

@@ -1,15 +1,17 @@
-ghost use Rattle.std.specs.Prelude.{◌≡◌, ◌≢◌, ◌≤◌, length, MatchBool, IfOk};
+ghost use Rattle.std.specs.Prelude.{◌≡◌, ◌≢◌, ◌≤◌, List, length, MatchBool, IfOk};
 ghost use Rattle.sc_grammar.specs.declared.token.Class.TheVariants as classes;
-ghost use Rattle.sc_cqlread.specs.Passing.{Stops, Takes};
+ghost use Rattle.sc_grammar.specs.declared.token.Token.{Token as TokenRecord};
+ghost use Rattle.sc_cqlread.specs.Passing.{IsRefused, Takes, Reads};
 ghost use Rattle.sc_cqlread.specs.Reading.{Reading as Made, start, eats, does};
-ghost use Rattle.sc_cqlread.specs.Kept.{IsReading};
+ghost use Rattle.sc_cqlread.specs.Kept.{Holds};
 ghost use Rattle.sc_cqlread.specs.Filters.{whole};
 ghost use Rattle.sc_cqlread.specs.Ends.{Ends};
 
-use crate::nesting::{MOST_LEVELS, level_behind, nests_too_deep};
+use crate::nesting::nests_too_deep;
 use crate::reading::Reading;
 use sc_cqlgrammar::{Stack, Step};
 use sc_grammar::{Class, Token, token_at};
+use sc_wkt::{MOST_LEVELS, level_behind};
 use std::alloc::{AllocError, Global};
 
 /// What the tokens of a text come to.
@@ -38,9 +40,9 @@ fn take(
 ) -> Result<bool, AllocError>
     requires ordered { token.from ≤ token.to }
     requires within { token.to ≤ length text.now }
-    requires reading { (r : Made) × IsReading reading.old r }
-    ensures { (r : Made) → IsReading reading.old r → IfOk result (λ taken. (made : Made) × IsReading reading.new made ×
-        MatchBool taken (Takes text.now stack.old r token stack.new made) (Stops Made (does text.now) stack.old r token made)) }
+    requires reading { (r : Made) × Holds reading.old r × (before : List TokenRecord) × Reads text.now whole start before stack.old r }
+    ensures { (r : Made) → Holds reading.old r → IfOk result (λ taken. (made : Made) × Holds reading.new made ×
+        MatchBool taken (Takes text.now stack.old r token stack.new made) (IsRefused Made (does text.now) stack.old r token made)) }
 {
     loop {
         match stack.next(token.class)? {
@@ -63,8 +65,8 @@ pub(crate) fn take_all(
     reading: &mut Reading,
 ) -> Result<End, AllocError>
     requires stack { stack.old ≡ whole }
-    requires reading { IsReading reading.old start }
-    ensures { IfOk result (λ end. (made : Made) × IsReading reading.new made × Ends text.now is_whole end made) }
+    requires reading { Holds reading.old start }
+    ensures { IfOk result (λ end. (made : Made) × Holds reading.new made × Ends text.now is_whole end made) }
 {
     let mut at = 0;
     let mut level = 0;

@@ -1,0 +1,10 @@
+pub mod Deriving
+pub mod Gives
+pub mod Literals
+pub mod Scalars
+pub mod Sketches
+pub mod Shapes
+pub mod Expressions
+pub mod Nesting
+pub mod Whole
+pub mod Again

@@ -2,8 +2,12 @@
 //! is read as that filter and as no other.
 #![tactic(auto)]
 
+#[cfg(test)]
+mod tests;
+mod write;
+
 pub use sc_base::Text;
-pub use sc_cqlagain::written_is_read_again;
 pub use sc_cqlread::{CqlFault, read_text};
-pub use sc_cqlwrite::{SpellFault, write_text};
+pub use sc_cqlwrite::SpellFault;
 pub use sc_expr::Filter;
+pub use write::write_text;

@@ -5,7 +5,8 @@ use sc_expr::Expr;
 use std::alloc::{AllocError, Global};
 use std::marker::Model;
 
-/// The expressions that stand ready, which contracts see as their list, the last first.
+/// The expressions that stand ready, which contracts see as their list, the last first. Beside what a stack has, the members
+/// of a chain are taken from it at once.
 #[derive(Drop)]
 pub struct Exprs {
     items: Vec<Expr>,

@@ -16,10 +16,8 @@ pub(crate) fn property_of(
 ) -> Result<Option<Scalar>, AllocError>
     ensures { IfOk result (λ scalar. scalar ≡ values.property_of text.now token) }
 {
-    match name_of(alloc, token.class, bytes_of(text, token))? {
-        None => Ok(None),
-        Some(name) => Ok(Some(Scalar::Prop(name))),
-    }
+    let name = name_of(alloc, token.class, bytes_of(text, token))?;
+    Ok(name.map(|name| Scalar::Prop(name)))
 }
 
 pub(crate) fn text_scalar_of(
@@ -29,19 +27,14 @@ pub(crate) fn text_scalar_of(
 ) -> Result<Option<Scalar>, AllocError>
     ensures { IfOk result (λ scalar. scalar ≡ values.text_scalar_of text.now token) }
 {
-    match text_of(alloc, bytes_of(text, token))? {
-        None => Ok(None),
-        Some(text) => Ok(Some(Scalar::Text(text))),
-    }
+    let text = text_of(alloc, bytes_of(text, token))?;
+    Ok(text.map(|text| Scalar::Text(text)))
 }
 
 pub(crate) fn number_scalar_of(text: &[u8], token: Token) -> Option<Scalar>
     ensures { result ≡ values.number_scalar_of text.now token }
 {
-    match dec_of(bytes_of(text, token)) {
-        None => None,
-        Some(number) => Some(Scalar::Number(number)),
-    }
+    dec_of(bytes_of(text, token)).map(|number| Scalar::Number(number))
 }
 
 pub(crate) fn instant_scalar_of(
@@ -51,10 +44,8 @@ pub(crate) fn instant_scalar_of(
 ) -> Result<Option<Scalar>, AllocError>
     ensures { IfOk result (λ scalar. scalar ≡ values.instant_scalar_of text.now token) }
 {
-    match instant_of(alloc, bytes_of(text, token))? {
-        None => Ok(None),
-        Some(instant) => Ok(Some(Scalar::Moment(instant))),
-    }
+    let instant = instant_of(alloc, bytes_of(text, token))?;
+    Ok(instant.map(|instant| Scalar::Moment(instant)))
 }
 
 pub(crate) fn day_scalar_of(
@@ -64,10 +55,8 @@ pub(crate) fn day_scalar_of(
 ) -> Result<Option<Scalar>, AllocError>
     ensures { IfOk result (λ scalar. scalar ≡ values.day_scalar_of text.now token) }
 {
-    match day_of(alloc, bytes_of(text, token))? {
-        None => Ok(None),
-        Some(midnight) => Ok(Some(Scalar::Moment(midnight))),
-    }
+    let midnight = day_of(alloc, bytes_of(text, token))?;
+    Ok(midnight.map(|midnight| Scalar::Moment(midnight)))
 }
 
 pub(crate) fn fold(alloc: Global, state: &mut State) -> Result<(), AllocError>

@@ -19,10 +19,8 @@ pub(crate) fn named_shape_of(
 ) -> Result<Option<Shape>, AllocError>
     ensures { IfOk result (λ shape. shape ≡ values.named_shape_of text.now token) }
 {
-    match name_of(alloc, token.class, bytes_of(text, token))? {
-        None => Ok(None),
-        Some(name) => Ok(Some(Shape::Prop(name))),
-    }
+    let name = name_of(alloc, token.class, bytes_of(text, token))?;
+    Ok(name.map(|name| Shape::Prop(name)))
 }
 
 pub(crate) fn begin_box(alloc: Global, state: &mut State)

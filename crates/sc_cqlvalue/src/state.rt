@@ -10,6 +10,7 @@ use std::alloc::Global;
 pub struct Bbox {
     /// Where its word begins.
     pub place: usize,
+    /// West, south, east and north, or these with a height behind each corner.
     pub sides: Seq<Dec>,
     /// Whether a number was too wide. It isn't among the sides then, and the box isn't judged.
     pub has_wide: bool,
@@ -20,13 +21,17 @@ pub struct Bbox {
 pub struct State {
     /// The token that came last.
     pub token: Token,
+    /// The scalars that stand ready, the last one first.
     pub scalars: Stack<Scalar>,
+    /// The expressions that stand ready, the last one first.
     pub exprs: Exprs,
+    /// The shapes that stand ready, the last one first.
     pub shapes: Stack<Shape>,
-    /// For each open chain, how many expressions stood ready before it.
+    /// For each open chain, the last one first, how many expressions stood ready before it.
     pub chains: Stack<usize>,
     /// The elements of the list that is open, in their order.
     pub listed: Seq<Scalar>,
+    /// The pattern that stands ready.
     pub pattern: Option<Pattern>,
     pub bbox: Bbox,
     /// The least place of a literal that can't be read.

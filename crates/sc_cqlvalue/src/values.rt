@@ -1,5 +1,4 @@
 use crate::act::act;
-use crate::put::note;
 use crate::shape::put_geometry;
 use crate::state::State;
 use sc_cqlgrammar::Mark;
@@ -87,13 +86,6 @@ impl Values {
                 Err(error)
             }
         }
-    }
-
-    /// Notes the place of what can't be read and doesn't stand here, as a number within a geometry.
-    pub fn note(&mut self, place: usize)
-        ensures { self.new ≡ values.noted place self.old }
-    {
-        note(place, &mut self.state);
     }
 
     /// The least place of what can't be read.

@@ -8,6 +8,7 @@ use std::alloc::{AllocError, AllocFailed};
 pub enum SpellFault {
     /// A text or a pattern of the filter ends in a backslash. No text in quotes does.
     NoSpelling,
+    /// Memory ran out. The filter has a text.
     OutOfMemory,
 }
 

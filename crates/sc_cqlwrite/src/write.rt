@@ -19,7 +19,8 @@ use std::alloc::Global;
 /// of And, Or or Not that is one of these itself stands in parentheses, and no other does. A geometry of one part is a
 /// `POINT`, `LINESTRING` or `POLYGON`, any other a `GEOMETRYCOLLECTION` of its points, lines and areas in this order.
 ///
-/// It is `NoSpelling` exactly where a text or a pattern of the filter ends in a backslash, since no text in quotes does.
+/// It is `NoSpelling` exactly where a text or a pattern of the filter ends in a backslash, since no text in quotes does;
+/// else `OutOfMemory` where memory ran out.
 pub fn write_text(alloc: Global, filter: &Filter) -> Result<Text, SpellFault>
     ensures { MatchResult result (λ text. (text ≡ written filter.now) × (some_text_ends filter.now ≡ false)) (λ fault. IsFault fault filter.now) }
 {

@@ -27,9 +27,9 @@ use Rattle.sc_wkt.specs.Kept.{IsDrawing}
 use Rattle.sc_wkt.specs.Levels.{AreTokens, no_token, one_more, next_token, class_within, level_behind}
 use Rattle.sc_wkt.specs.Reading.{geometry, Takes, Refuse, IsReading}
 
-tokens_push : (text : List ℕ) (is_whole : Bool) (at level : ℕ) (ts : List Token) (to behind : ℕ) → AreTokens text is_whole at level ts to behind → (t : Token) → t ≡ next_token text is_whole to behind → AreTokens text is_whole at level (ts ++ t ∷ []) t.to (level_behind behind t.class)
-tokens_push text is_whole _ _ _ _ _ (no_token at level) t e = one_more at level t [] t.to (level_behind level t.class) e (no_token t.to (level_behind level t.class))
-tokens_push text is_whole _ _ _ _ _ (one_more at level u us to behind f rest) t e = one_more at level u (us ++ t ∷ []) t.to (level_behind behind t.class) f (tokens_push text is_whole u.to (level_behind level u.class) us to behind rest t e)
+tokens_push : (text : List ℕ) (is_whole : Bool) (at level : ℕ) (ts : List Token) (to behind : ℕ) → AreTokens text is_whole at level ts to behind → (t : Token) → t ≡ next_token text is_whole to behind → AreTokens text is_whole at level (ts ++ t ∷ []) t.to (level_behind t.class behind)
+tokens_push text is_whole _ _ _ _ _ (no_token at level) t e = one_more at level t [] t.to (level_behind t.class level) e (no_token t.to (level_behind t.class level))
+tokens_push text is_whole _ _ _ _ _ (one_more at level u us to behind f rest) t e = one_more at level u (us ++ t ∷ []) t.to (level_behind t.class behind) f (tokens_push text is_whole u.to (level_behind u.class level) us to behind rest t e)
 
 or_assoc : (a b c : Option ℕ) → option_or (option_or a b) c ≡ option_or a (option_or b c)
 or_assoc None b c = refl
@@ -43,10 +43,10 @@ wide_push : (text : List ℕ) (ts : List Token) (t : Token) → first_wide text 
 wide_push text [] t = or_none (wide_at text t)
 wide_push text (u ∷ us) t = ap (option_or (wide_at text u)) (wide_push text us t) ∙ sym (or_assoc (wide_at text u) (first_wide text us) (wide_at text t))
 
-low_within : (level : ℕ) (c : Class) → level ≤ 64 → level_behind level (class_within level c) ≤ 64
+low_within : (level : ℕ) (c : Class) → level ≤ 64 → level_behind (class_within level c) level ≤ 64
 low_within level classes.Opening h = by_test (nat_le 64 level) refl
   where
-    by_test : (b : Bool) → nat_le 64 level ≡ b → level_behind level (if b then classes.Bad else classes.Opening) ≤ 64
+    by_test : (b : Bool) → nat_le 64 level ≡ b → level_behind (if b then classes.Bad else classes.Opening) level ≤ 64
     by_test true e = h
     by_test false e = elim (leb_tells 64 level) [ inl p ↦ let no : true ≡ false = sym p.0 ∙ e in cc | inr p ↦ let below : level < 64 = p.1 in omega arith ]
 low_within level classes.Closing h = omega arith
@@ -96,7 +96,7 @@ ahead_at_first text is_whole stack drawing e is = record {
 
 module _ (text : List ℕ) (is_whole : Bool) (at level : ℕ) (stack : Items) (drawing : kept.Drawing) (wide : Option ℕ) (ahead : IsAhead text is_whole at level stack drawing wide) (t : Token) (t_is : t ≡ next_token text is_whole at level) where
   -- a token is taken
-  pub ahead_on : (next : Items) (new : kept.Drawing) (e : Drawing) → Takes text stack ahead.drawn t next e → IsDrawing new e → (w : Option ℕ) → w ≡ option_or wide (wide_at text t) → (l : ℕ) → l ≡ level_behind level t.class → t.to ≤ length text → IsAhead text is_whole t.to l next new w
+  pub ahead_on : (next : Items) (new : kept.Drawing) (e : Drawing) → Takes text stack ahead.drawn t next e → IsDrawing new e → (w : Option ℕ) → w ≡ option_or wide (wide_at text t) → (l : ℕ) → l ≡ level_behind t.class level → t.to ≤ length text → IsAhead text is_whole t.to l next new w
   ahead_on next new e goes is w w_is l l_is within = record {
     tokens = ahead.tokens ++ t ∷ [];
     drawn = e;

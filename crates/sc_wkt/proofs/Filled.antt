@@ -25,20 +25,20 @@ use Rattle.sc_cqlgrammar.proofs.Readings.{Left}
 use Rattle.sc_wkt.specs.Drawing.{Drawing, blank, reads, reads_class, draws, with_line, with_area}
 
 -- what is known not to be empty: the path, the rings, the sketch
-record Facts : Type 0 where
+pub record Facts : Type 0 where
   pub path : Bool
   pub rings : Bool
   pub sketch : Bool
 
-abbrev facts : Bool → Bool → Bool → Facts
+abbrev pub facts : Bool → Bool → Bool → Facts
 facts p q s = record { path = p; rings = q; sketch = s }
 
-record Holds (f : Facts) (d : Drawing) : Type 0 where
+pub record Holds (f : Facts) (d : Drawing) : Type 0 where
   pub path : f.path ≡ true → 1 ≤ length d.path
   pub rings : f.rings ≡ true → 1 ≤ length (joined d.rings)
   pub sketch : f.sketch ≡ true → 1 ≤ count_of d.sketch
 
-abbrev after_mark : Mark → Facts → Facts
+abbrev pub after_mark : Mark → Facts → Facts
 after_mark marks.Latitude f = facts true f.rings f.sketch
 after_mark marks.Points f = facts false f.rings (f.sketch || f.path)
 after_mark marks.Line f = facts false f.rings (f.sketch || f.path)
@@ -47,7 +47,7 @@ after_mark marks.Area f = facts f.path false (f.sketch || f.rings)
 after_mark _ f = f
 
 -- what a rule leaves; nothing is told of the rules that no geometry has
-abbrev effect : Rule → Facts → Facts
+abbrev pub effect : Rule → Facts → Facts
 effect rules.Position f = facts true f.rings f.sketch
 effect rules.PositionRest f = f
 effect rules.Height f = f
@@ -78,12 +78,12 @@ after-append (non n ∷ a) is f = after-append a is (effect n f)
 
 -- ---- less is known
 
-record IsLess (f g : Facts) : Type 0 where
+pub record IsLess (f g : Facts) : Type 0 where
   pub path : f.path ≡ true → g.path ≡ true
   pub rings : f.rings ≡ true → g.rings ≡ true
   pub sketch : f.sketch ≡ true → g.sketch ≡ true
 
-less_holds : (f g : Facts) (d : Drawing) → IsLess f g → Holds g d → Holds f d
+pub less_holds : (f g : Facts) (d : Drawing) → IsLess f g → Holds g d → Holds f d
 less_holds f g d less h = record { path = λ e. h.path (less.path e); rings = λ e. h.rings (less.rings e); sketch = λ e. h.sketch (less.sketch e) }
 
 no_fact : {A : Type 0} → false ≡ true → A
@@ -95,7 +95,7 @@ or_less true b false d h k e = no_fact (h refl)
 or_less false b true d h k e = refl
 or_less false b false d h k e = k e
 
-mark_less : (k : Mark) (f g : Facts) → IsLess f g → IsLess (after_mark k f) (after_mark k g)
+pub mark_less : (k : Mark) (f g : Facts) → IsLess f g → IsLess (after_mark k f) (after_mark k g)
 mark_less marks.Latitude f g less = record { path = λ e. refl; rings = less.rings; sketch = less.sketch }
 mark_less marks.Points f g less = record { path = λ e. e; rings = less.rings; sketch = or_less f.sketch f.path g.sketch g.path less.sketch less.path }
 mark_less marks.Line f g less = record { path = λ e. e; rings = less.rings; sketch = or_less f.sketch f.path g.sketch g.path less.sketch less.path }
@@ -103,7 +103,7 @@ mark_less marks.Ring f g less = record { path = λ e. e; rings = or_less f.rings
 mark_less marks.Area f g less = record { path = less.path; rings = λ e. e; sketch = or_less f.sketch f.rings g.sketch g.rings less.sketch less.rings }
 mark_less _ f g less = less
 
-effect_less : (n : Rule) (f g : Facts) → IsLess f g → IsLess (effect n f) (effect n g)
+pub effect_less : (n : Rule) (f g : Facts) → IsLess f g → IsLess (effect n f) (effect n g)
 effect_less rules.Position f g less = record { path = λ e. refl; rings = less.rings; sketch = less.sketch }
 effect_less rules.PositionRest f g less = less
 effect_less rules.Height f g less = less
@@ -131,14 +131,14 @@ after_less (non n ∷ is) f g less = after_less is (effect n f) (effect n g) (ef
 abbrev implies : Bool → Bool → Bool
 implies a b = not a || b
 
-abbrev is_less : Facts → Facts → Bool
+abbrev pub is_less : Facts → Facts → Bool
 is_less f g = implies f.path g.path && implies f.rings g.rings && implies f.sketch g.sketch
 
 implied : (a b : Bool) → implies a b ≡ true → a ≡ true → b ≡ true
 implied true b e f = e
 implied false b e f = no_fact f
 
-less_is : (f g : Facts) → is_less f g ≡ true → IsLess f g
+pub less_is : (f g : Facts) → is_less f g ≡ true → IsLess f g
 less_is f g e =
     let p = both_true (implies f.path g.path && implies f.rings g.rings) (implies f.sketch g.sketch) e in
     let q = both_true (implies f.path g.path) (implies f.rings g.rings) p.0 in
@@ -228,7 +228,7 @@ area_holds (ring ∷ rings) f d k h = record {
   sketch = grown d.sketch (areas_only ((ring ∷ rings) ∷ [])) f.sketch f.rings h.sketch (λ p. area_counted (ring ∷ rings) (k p));
 }
 
-mark_holds : (k : Mark) (f : Facts) (d : Drawing) → (draws k d).is_short ≡ false → Holds f d → Holds (after_mark k f) (draws k d)
+pub mark_holds : (k : Mark) (f : Facts) (d : Drawing) → (draws k d).is_short ≡ false → Holds f d → Holds (after_mark k f) (draws k d)
 mark_holds marks.Longitude f d e h = record { path = h.path; rings = h.rings; sketch = h.sketch }
 mark_holds marks.Latitude f d e h = record { path = λ p. path_grown d.path _; rings = h.rings; sketch = h.sketch }
 mark_holds marks.Points f d e h = record { path = no_fact; rings = h.rings; sketch = grown d.sketch (points_only d.path) f.sketch f.path h.sketch (λ p. points_counted d.path (h.path p)) }
@@ -245,20 +245,23 @@ area_short : (rings : List (List (Option Pt))) (d : Drawing) → (with_area ring
 area_short [] d = refl
 area_short (ring ∷ rings) d = refl
 
-mark_short : (k : Mark) (d : Drawing) → (draws k d).is_short ≡ false → d.is_short ≡ false
+pub mark_short : (k : Mark) (d : Drawing) → (draws k d).is_short ≡ false → d.is_short ≡ false
 mark_short marks.Line d e = line_short (nat_le 2 (length d.path)) d e
 mark_short marks.Area d e = sym (area_short d.rings d) ∙ e
 mark_short _ d e = e
 
 -- ---- tokens, and whole derivations
 
-class_short : (c : Class) (bytes : List ℕ) (d : Drawing) → (reads_class c bytes d).is_short ≡ d.is_short
+pub class_short : (c : Class) (bytes : List ℕ) (d : Drawing) → (reads_class c bytes d).is_short ≡ d.is_short
 class_short classes.Number bytes d = refl
 class_short _ bytes d = refl
 
-class_holds : (c : Class) (bytes : List ℕ) (f : Facts) (d : Drawing) → Holds f d → Holds f (reads_class c bytes d)
+pub class_holds : (c : Class) (bytes : List ℕ) (f : Facts) (d : Drawing) → Holds f d → Holds f (reads_class c bytes d)
 class_holds classes.Number bytes f d h = record { path = h.path; rings = h.rings; sketch = h.sketch }
 class_holds _ bytes f d h = h
+
+pub blank_holds : Holds (facts false false false) blank
+blank_holds = record { path = no_fact; rings = no_fact; sketch = no_fact }
 
 module _ (text : List ℕ) where
   derives_short : (is : Items) (d : Drawing) (ts : List Token) (e : Drawing) → Left Drawing (reads text) draws is d ts e → e.is_short ≡ false → d.is_short ≡ false
@@ -274,9 +277,6 @@ module _ (text : List ℕ) where
   derives_holds _ _ _ _ (rule n a is d ts e r l) s f h =
       let inner : Holds (after is (after a f)) e = subst (λ (x : Facts). Holds x e) (after-append a is f) (derives_holds (a ++ is) d ts e l s f h) in
       less_holds (after is (effect n f)) (after is (after a f)) e (after_less is (effect n f) (after a f) (alternative_keeps n a r f)) inner
-
-  blank_holds : Holds (facts false false false) blank
-  blank_holds = record { path = no_fact; rings = no_fact; sketch = no_fact }
 
   -- a geometry with no line that is too short has a position
   pub drawn_filled : (ts : List Token) (e : Drawing) → Left Drawing (reads text) draws (non rules.Geometry ∷ []) blank ts e → e.is_short ≡ false → 1 ≤ count_of e.sketch

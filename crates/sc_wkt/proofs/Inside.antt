@@ -38,7 +38,7 @@ pub record IsInside (d : Drawing) : Type 0 where
   pub lines : AllKnown (joined d.sketch.lines)
   pub areas : AllKnown (joined (rings_of d.sketch))
 
-blank_inside : IsInside blank
+pub blank_inside : IsInside blank
 blank_inside = record { number = refl; longitude = refl; path = refl; rings = refl; points = refl; lines = refl; areas = refl }
 
 both_known : (xs ys : List (Option Pt)) → AllKnown xs → AllKnown ys → AllKnown (xs ++ ys)
@@ -79,7 +79,7 @@ area_outside : (rings : List (List (Option Pt))) (d : Drawing) → (with_area ri
 area_outside [] d = refl
 area_outside (ring ∷ rings) d = refl
 
-mark_outside : (k : Mark) (d : Drawing) → (draws k d).is_outside ≡ false → d.is_outside ≡ false
+pub mark_outside : (k : Mark) (d : Drawing) → (draws k d).is_outside ≡ false → d.is_outside ≡ false
 mark_outside marks.Longitude d e = (or_parts d.is_outside (leaves longitude_of d.number) e).0
 mark_outside marks.Latitude d e = (or_parts d.is_outside (leaves latitude_of d.number) e).0
 mark_outside marks.Line d e = sym (line_outside (nat_le 2 (length d.path)) d) ∙ e
@@ -110,7 +110,7 @@ area_inside (ring ∷ rings) d e is = record {
   areas = areas_known d.sketch.areas ((ring ∷ rings) ∷ []) is.areas (one_area (ring ∷ rings) e);
 }
 
-mark_inside : (k : Mark) (d : Drawing) → (draws k d).is_outside ≡ false → IsInside d → IsInside (draws k d)
+pub mark_inside : (k : Mark) (d : Drawing) → (draws k d).is_outside ≡ false → IsInside d → IsInside (draws k d)
 mark_inside marks.Longitude d e is = record {
   number = is.number;
   longitude = coordinate_known longitude_of d.number is.number (or_parts d.is_outside (leaves longitude_of d.number) e).1;
@@ -156,11 +156,11 @@ mark_inside _ d e is = is
 
 -- ---- tokens
 
-class_outside : (c : Class) (bytes : List ℕ) (d : Drawing) → (reads_class c bytes d).is_outside ≡ d.is_outside
+pub class_outside : (c : Class) (bytes : List ℕ) (d : Drawing) → (reads_class c bytes d).is_outside ≡ d.is_outside
 class_outside classes.Number bytes d = refl
 class_outside _ bytes d = refl
 
-class_inside : (c : Class) (bytes : List ℕ) (at : ℕ) (d : Drawing) → wide_of c bytes at ≡ None → IsInside d → IsInside (reads_class c bytes d)
+pub class_inside : (c : Class) (bytes : List ℕ) (at : ℕ) (d : Drawing) → wide_of c bytes at ≡ None → IsInside d → IsInside (reads_class c bytes d)
 class_inside classes.Number bytes at d e is = record { number = by_test (is_none (number_in bytes)) e; longitude = is.longitude; path = is.path; rings = is.rings; points = is.points; lines = is.lines; areas = is.areas }
   where
     by_test : (b : Bool) → (if b then Some at else None) ≡ None → b ≡ false
@@ -168,9 +168,20 @@ class_inside classes.Number bytes at d e is = record { number = by_test (is_none
     by_test false f = refl
 class_inside _ bytes at d e is = is
 
-neither : (a b : Option ℕ) → option_or a b ≡ None → (a ≡ None) × (b ≡ None)
+pub neither : (a b : Option ℕ) → option_or a b ≡ None → (a ≡ None) × (b ≡ None)
 neither None b e = (refl, e)
 neither (Some x) b e = absurd cc
+
+-- ---- the whole sketch
+
+all_false : (a b c : Bool) → a ≡ false → b ≡ false → c ≡ false → ((a || b) || c) ≡ false
+all_false true b c e f g = absurd cc
+all_false false true c e f g = absurd cc
+all_false false false c e f g = g
+
+pub stays_inside : (d : Drawing) → IsInside d → leaves_world d.sketch ≡ false
+stays_inside d inside =
+    leaves_is d.sketch ∙ all_false (list_any is_none d.sketch.points) (list_any is_none (joined d.sketch.lines)) (list_any is_none (joined (rings_of d.sketch))) inside.points inside.lines inside.areas
 
 -- ---- whole derivations
 
@@ -189,12 +200,5 @@ module _ (text : List ℕ) where
   derives_inside _ _ _ _ (mark k is d ts e l) w h inside = derives_inside is (draws k d) ts e l w h (mark_inside k d (derives_outside is (draws k d) ts e l h) inside)
   derives_inside _ _ _ _ (rule n a is d ts e r l) w h inside = derives_inside (a ++ is) d ts e l w h inside
 
-  all_false : (a b c : Bool) → a ≡ false → b ≡ false → c ≡ false → ((a || b) || c) ≡ false
-  all_false true b c e f g = absurd cc
-  all_false false true c e f g = absurd cc
-  all_false false false c e f g = g
-
   pub drawn_inside : (is : Items) (ts : List Token) (e : Drawing) → Left Drawing (reads text) draws is blank ts e → first_wide text ts ≡ None → e.is_outside ≡ false → leaves_world e.sketch ≡ false
-  drawn_inside is ts e l w h =
-      let inside = derives_inside is blank ts e l w h blank_inside in
-      leaves_is e.sketch ∙ all_false (list_any is_none e.sketch.points) (list_any is_none (joined e.sketch.lines)) (list_any is_none (joined (rings_of e.sketch))) inside.points inside.lines inside.areas
+  drawn_inside is ts e l w h = stays_inside e (derives_inside is blank ts e l w h blank_inside)

@@ -40,7 +40,7 @@ record IsNext (text : List ℕ) (is_whole : Bool) (at level : ℕ) (us : List To
   pub more : List Token
   pub split : us ≡ token ∷ more
   pub token_is : token ≡ next_token text is_whole at level
-  pub tokens_are : AreTokens text is_whole token.to (level_behind level token.class) more end last
+  pub tokens_are : AreTokens text is_whole token.to (level_behind token.class level) more end last
 
 abbrev AreNone : ℕ → ℕ → List Token → ℕ → ℕ → Type 0
 AreNone at level us end last = (us ≡ []) × (at ≡ end) × (level ≡ last)
@@ -62,7 +62,7 @@ tokens_meet text is_whole _ _ _ _ _ (one_more at level t ts to behind e a) us en
       })
       | inr q ↦
           let one : q.token ≡ t = q.token_is ∙ sym e in
-          elim (tokens_meet text is_whole t.to (level_behind level t.class) ts to behind a q.more end last (subst (λ (x : Token). AreTokens text is_whole x.to (level_behind level x.class) q.more end last) one q.tokens_are)) [
+          elim (tokens_meet text is_whole t.to (level_behind t.class level) ts to behind a q.more end last (subst (λ (x : Token). AreTokens text is_whole x.to (level_behind x.class level) q.more end last) one q.tokens_are)) [
             | inl m ↦ inl (record { rest = m.rest; longer = q.split ∙ ap (λ (x : Token). x ∷ q.more) one ∙ ap (λ (x : List Token). t ∷ x) m.longer; tokens_are = m.tokens_are })
             | inr m ↦ inr (record { rest = m.rest; longer = ap (λ (x : List Token). t ∷ x) m.longer ∙ ap (λ (x : List Token). x ++ m.rest) (sym (q.split ∙ ap (λ (x : Token). x ∷ q.more) one)); tokens_are = m.tokens_are })
           ]

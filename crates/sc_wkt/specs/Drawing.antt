@@ -1,5 +1,5 @@
 -- What the tokens and marks of a geometry draw: positions, and the points, lines and areas that they make, in order.
-use Rattle.std.specs.Prelude.{ℕ, ℤ, pos, List, [], ◌∷◌, ◌++◌, length, Bool, true, false, ◌&&◌, ◌||◌, not, nat_le, nat_lt, is_none, Option, Some, None, if◌then◌else◌}
+use Rattle.std.specs.Prelude.{◌≡◌, ℕ, ℤ, pos, List, [], ◌∷◌, ◌++◌, length, Bool, true, false, ◌&&◌, ◌||◌, not, nat_le, nat_lt, is_none, Option, Some, None, Err, if◌then◌else◌}
 use Rattle.std.specs.Option.{option_and_then, option_or}
 use Rattle.sc_decimal.specs.Number.{Number}
 use Rattle.sc_decimal.specs.Value.{is_number, is_wide, number_of}
@@ -9,6 +9,9 @@ use Rattle.sc_geom.specs.Shapes.{nothing, beside}
 use Rattle.sc_geom.specs.Sketch.{Sketch, has_open_ring}
 use Rattle.sc_geom.specs.Drawn.{points_only, lines_only, areas_only}
 use Rattle.sc_geom.specs.Answers.{count_of}
+use Rattle.sc_geom.specs.Building.{Finishes}
+use Rattle.sc_geom.specs.declared.fault.GeomFault.{GeomFault}
+use Rattle.sc_geom.specs.declared.fault.GeomFault.TheVariants as faults
 use Rattle.sc_grammar.specs.Words.{bytes_of}
 use Rattle.sc_grammar.specs.declared.token.Class.{Class}
 use Rattle.sc_grammar.specs.declared.token.Class.TheVariants as classes
@@ -101,3 +104,7 @@ draws _ d = d
 -- a line of fewer than 2 positions, an open ring, a coordinate out of range, or more positions than may be
 abbrev pub is_bad : ℕ → Drawing → Bool
 is_bad most d = d.is_short || has_open_ring d.sketch || d.is_outside || nat_lt most (count_of d.sketch)
+
+-- where what is drawn isn't finished, memory ran out
+abbrev pub FailsByMemoryAlone : ℕ → Drawing → Type 0
+FailsByMemoryAlone most d = (fault : GeomFault) → Finishes (Err fault) d.sketch most → fault ≡ faults.OutOfMemory

@@ -7,10 +7,10 @@ use Rattle.sc_grammar.specs.declared.token.Class.TheVariants as classes
 use Rattle.sc_grammar.specs.declared.token.Token.{Token}
 
 -- the level behind a token; a closing parenthesis that none opens closes nothing
-abbrev pub level_behind : ℕ → Class → ℕ
-level_behind level classes.Opening = level + 1
-level_behind level classes.Closing = level - 1
-level_behind level _ = level
+abbrev pub level_behind : Class → ℕ → ℕ
+level_behind classes.Opening level = level + 1
+level_behind classes.Closing level = level - 1
+level_behind _ level = level
 
 abbrev pub class_within : ℕ → Class → Class
 class_within level classes.Opening = if nat_le 64 level then classes.Bad else classes.Opening
@@ -27,4 +27,4 @@ next_token text is_whole at level = token_within level (token_at text is_whole a
 pub data AreTokens (text : List ℕ) (is_whole : Bool) : ℕ → ℕ → List Token → ℕ → ℕ → Type 0 where
   no_token : (at level : ℕ) → AreTokens text is_whole at level [] at level
   one_more : (at level : ℕ) (token : Token) (tokens : List Token) (to behind : ℕ) → token ≡ next_token text is_whole at level →
-      AreTokens text is_whole token.to (level_behind level token.class) tokens to behind → AreTokens text is_whole at level (token ∷ tokens) to behind
+      AreTokens text is_whole token.to (level_behind token.class level) tokens to behind → AreTokens text is_whole at level (token ∷ tokens) to behind

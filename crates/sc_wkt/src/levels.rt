@@ -5,7 +5,7 @@ ghost use Rattle.sc_wkt.specs.Levels as levels;
 use sc_grammar::{Class, Token, token_at};
 
 /// How deep parentheses may nest.
-const MOST_LEVELS: u32 = 64;
+pub const MOST_LEVELS: u32 = 64;
 
 fn class_within(level: u32, class: Class) -> Class
     ensures { result ≡ levels.class_within level class }
@@ -22,10 +22,10 @@ fn class_within(level: u32, class: Class) -> Class
     }
 }
 
-/// The level of parentheses behind a token that was taken.
-pub(crate) fn level_behind(level: u32, class: Class) -> u32
+/// The level of parentheses behind a token: a closing one that none opens closes nothing.
+pub fn level_behind(class: Class, level: u32) -> u32
     requires { level ≤ 64 }
-    ensures { result ≡ levels.level_behind level class }
+    ensures { result ≡ levels.level_behind class level }
 {
     match class {
         Class::Opening => level + 1,

@@ -15,5 +15,6 @@ mod wkt;
 
 pub use drawing::Drawing;
 pub use fault::WktFault;
+pub use levels::{MOST_LEVELS, level_behind};
 pub use sc_geom::{Geom, Seq};
 pub use wkt::geom_of_wkt;

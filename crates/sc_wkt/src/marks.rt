@@ -6,13 +6,13 @@ ghost use Rattle.sc_geom.specs.Building.{Completes};
 ghost use Rattle.sc_geom.specs.Answers.{count_of};
 ghost use Rattle.sc_grammar.specs.Words.{bytes_of};
 ghost use Rattle.sc_cqlgrammar.specs.declared.mark.Mark.TheVariants as marks;
-ghost use Rattle.sc_wkt.specs.Drawing.{Drawing as Drawn, blank, draws, reads, number_in, leaves, is_bad, wide_at};
+ghost use Rattle.sc_wkt.specs.Drawing.{Drawing as Drawn, blank, draws, reads, number_in, leaves, is_bad, wide_at, FailsByMemoryAlone};
 ghost use Rattle.sc_wkt.specs.Kept.{IsDrawing};
 
 use crate::drawing::Drawing;
 use sc_cqlgrammar::Mark;
 use sc_decimal::Dec;
-use sc_geom::{Area, Draft, Geom, Path, Pt, latitude, longitude};
+use sc_geom::{Area, Draft, Geom, GeomFault, Path, Pt, latitude, longitude};
 use sc_grammar::{Class, Token};
 use std::alloc::{AllocError, Global};
 use std::mem;
@@ -56,7 +56,7 @@ impl Drawing {
         }
     }
 
-    /// Does what a mark means.
+    /// Does what a mark means. Where memory ran out, what is drawn is of no use any more.
     pub fn draw(&mut self, alloc: Global, mark: Mark) -> Result<(), AllocError>
         ensures { (d : Drawn) → IsDrawing self.old d → OnOk result (IsDrawing self.new (draws mark d)) }
     {
@@ -151,14 +151,15 @@ impl Drawing {
             || u64::from(most) < self.draft.count()
     }
 
-    /// The geometry that is drawn. Of a drawing that isn't bad and has no number that is too wide only memory can be wanting.
+    /// The geometry that is drawn whole, where it isn't bad and has no number that is too wide: memory alone can be wanting.
     pub fn finish(self, most: u32) -> Result<Geom, AllocError>
-        requires { (d : Drawn) × IsDrawing self d }
+        requires { (d : Drawn) × IsDrawing self d × FailsByMemoryAlone most d }
         ensures { (d : Drawn) → IsDrawing self d → IfOk result (λ geom. Completes d.sketch geom × (count_of geom ≤ most)) }
     {
         match self.draft.finish(most) {
             Ok(geom) => Ok(geom),
-            Err(_) => Err(AllocError),
+            Err(GeomFault::OutOfMemory) => Err(AllocError),
+            Err(_) => unreachable!(),
         }
     }
 }

@@ -28,7 +28,7 @@ pub(crate) fn read_geometry(
             return Ok(Reading { drawing, wide, end });
         }
         wide = wide.or(drawing.wide_at(token));
-        level = level_behind(level, token.class);
+        level = level_behind(token.class, level);
         at = token.to;
         if stack.is_empty() {
             let end = End::Whole(at);

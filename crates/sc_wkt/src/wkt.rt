@@ -9,11 +9,13 @@ use sc_grammar::readable_len;
 use std::alloc::Global;
 
 /// Reads one geometry at the front of the text, as CQL2 text writes it (OGC 21-065r2, Annex B), and gives how many bytes it
-/// takes, up to its last parenthesis; what stands behind isn't read. Parentheses nest 64 deep at most.
+/// takes, up to its last parenthesis; what stands behind isn't read.
 ///
-/// `Syntax` where no whole geometry stands there, and `BadLiteral` for a number that is too wide or a geometry with a line of
-/// fewer than 2 positions, an open ring, a coordinate out of range or more than `most` positions, whichever of both has the
-/// lesser place; a bad geometry counts only where it is whole.
+/// `Syntax` where no whole geometry stands there, at the first token that no geometry goes on with: a byte at which no token
+/// can be formed, a byte that isn't UTF-8 and a parenthesis of the 65th level among them. `BadLiteral` for a number that is
+/// too wide or a geometry with a line of fewer than 2 positions, an open ring, a coordinate out of range or more than `most`
+/// positions, whichever of both has the lesser place; a bad geometry counts only where it is whole. `OutOfMemory` may come of
+/// any text.
 pub fn geom_of_wkt(alloc: Global, text: &[u8], most: u32) -> Result<(Geom, u64), WktFault>
     ensures { WktAnswers text.now most result }
 {
