@@ -17,6 +17,7 @@ pub enum PrepareFault {
     /// The tree isn't an object with an `id`, a text of 1 to 256 bytes, and a `catalogue:cut` that is missing or one of the
     /// texts "whole", "year" and "month".
     BadCollection,
+    /// There wasn't enough memory. It may come in place of any other answer.
     OutOfMemory,
 }
 
@@ -47,16 +48,18 @@ pub enum LoadFault {
     ItemExists { id: Text },
     /// The item that is to be replaced, patched or deleted isn't there.
     NoItem { id: Text },
-    /// The first id that stands in the load a second time.
+    /// The id at the first place at which an id stands a second time: `b` of a, b, b, a.
     DuplicateInLoad { id: Text },
     /// The patched tree is no item, or one with another id. The fault is never want of memory.
     BadPatch { fault: ItemFault },
-    /// With the load the history would have so many entries and bytes, one of them above its limit.
+    /// With the load the history would have so many entries and bytes of documents; at most 1,000,000 entries and 2^29
+    /// bytes are taken. A sum past 2^64 - 1 is told as that.
     HistoryFull { entries: u64, bytes: u64 },
-    /// With the load there would be so many parts, above their limit.
+    /// With the load there would be so many parts with items; at most 65,536 are taken.
     PartitionsFull { count: u64 },
-    /// With the load there would be so many collections, above their limit.
+    /// With the load there would be so many collections; at most 1,024 are taken.
     CollectionsFull { count: u64 },
+    /// There wasn't enough memory. It may come in place of any other answer.
     OutOfMemory,
 }
 
