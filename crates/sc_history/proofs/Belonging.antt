@@ -162,7 +162,7 @@ module _ (test : PartName → Feature → Bool) where
   parted [] names all = subst (IsPermutation []) (sym (flat_map_none (λ name. filter (test name) []) (λ name. refl) names)) (IsPermutation-refl [])
   parted (x ∷ items) names all = IsPermutation-trans _ _ _ (IsPermutation-cons x _ _ (parted items names all.1)) (parted_more x items names all.0)
 
-all_contained : (items : List Feature) → AllByRecursion (Contains items) items
+pub all_contained : {X : Type 0} (items : List X) → AllByRecursion (Contains items) items
 all_contained items = recursion_from_All (Contains items) items (All-contains_itself items)
 
 some_passes : (test : Feature → Bool) (items : List Feature) (x : Feature) → Contains items x → test x ≡ true → is_empty (filter test items) ≡ false

@@ -15,11 +15,14 @@ pub mod Counting
 pub mod Patching
 pub mod Keys
 pub mod Belonging
+pub mod Existing
 pub mod Telling
 pub mod Finding
+pub mod Moving
 pub mod Lawful
 pub mod ItemFaults
 pub mod Faulting
+pub mod Answering
 pub mod Orders
 pub mod Limits
 pub mod Examples

@@ -45,7 +45,7 @@ come_boxed past change name n =
     let all = all_weaker (IsOwn (collection_of change.load)) IsBoxed (λ i o. boxed i (subst (λ c. IsItemOf c i) (sym o.0) o.1)) change.come owned in
     All-filter (belongs (apply (replay past) change).collections name) IsBoxed change.come (All-from_recursion IsBoxed change.come all)
 
-scan_next : (past : List Change) (change : Change) (name : PartName) → Next past change → touches (replay past) change name ≡ true
+pub scan_next : (past : List Change) (change : Change) (name : PartName) → Next past change → touches (replay past) change name ≡ true
     → scan_of (part_of (replay (change ∷ past)) name) ≡ scan_of (renewed (takes change.load) (comes (replay past) change name) (scan_of (part_of (replay past) name)))
 unfolding replay
 scan_next past change name n e = scan_after_load (replay past) change name n.allowed n.before n.after (touched_collection (replay past) change name n.allowed e)
@@ -148,7 +148,7 @@ stands_touched past change name (Some part) n old e = stands_aged past change na
 
 -- ---- a part that the load doesn't touch
 
-next_untouched : (past : List Change) (change : Change) (name : PartName) → Next past change → touches (replay past) change name ≡ false
+pub next_untouched : (past : List Change) (change : Change) (name : PartName) → Next past change → touches (replay past) change name ≡ false
     → (comes (replay past) change name ≡ []) × (part_of (replay (change ∷ past)) name ≡ part_of (replay past) name)
 unfolding replay
 next_untouched past change name n e = part_untouched (replay past) change name n.allowed n.before e

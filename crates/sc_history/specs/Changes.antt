@@ -1,7 +1,6 @@
 -- What a load does to a content: the items that it takes, those that it puts, and the collections after it.
 use Rattle.std.specs.Prelude.{◌≡◌, ℕ, Bool, true, not, ◌&&◌, List, [], ◌∷◌, ◌++◌, Some, map, filter}
 use Rattle.std.specs.Str.{bytes_eq}
-use Rattle.std.specs.List.{list_any}
 use Rattle.std.specs.Arc.{arc_value}
 use Rattle.sc_json.specs.declared.tree.Json.{Json}
 use Rattle.sc_item.specs.Feature.{Feature}
@@ -9,6 +8,7 @@ use Rattle.sc_load.specs.declared.load.Load.{Load}
 use Rattle.sc_load.specs.declared.load.Load.TheVariants.{AddCollection, DropCollection, Insert, Upsert, Replace, Patch, Delete}
 use Rattle.sc_load.specs.Load.{collection_of, items_of}
 use Rattle.sc_load.specs.Patches.{IsPatched}
+pub use Rattle.sc_part.specs.Scan.{is_among}
 use Rattle.sc_history.specs.Content.{Collection, Content, is_called, item_in}
 
 -- ---- what it takes
@@ -25,10 +25,6 @@ gone (Upsert collection items) = ids_of (map arc_value items)
 gone (Replace collection item) = (arc_value item).id ∷ []
 gone (Patch collection id patch) = id ∷ []
 gone (Delete collection id) = id ∷ []
-
--- whether the id is one of these
-abbrev pub is_among : List (List ℕ) → List ℕ → Bool
-is_among ids id = list_any (λ other. bytes_eq other id) ids
 
 -- whether a load takes the item with the id out of its collection: all go with their collection, even if equal ones come back
 abbrev pub takes : Load → List ℕ → Bool

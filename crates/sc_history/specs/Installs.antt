@@ -7,8 +7,9 @@ use Rattle.sc_bounds.specs.Sets.{meet_of}
 use Rattle.sc_history.specs.declared.addition.Addition.{Addition}
 use Rattle.sc_history.specs.declared.installed.Installed.{Installed}
 use Rattle.sc_history.specs.declared.installed.Installed.TheVariants.{Exact, Joined, TooOld, Gone}
-use Rattle.sc_history.specs.Names.{is_name}
-use Rattle.sc_history.specs.History.{join_all}
+use Rattle.sc_history.specs.Changes.{Change}
+use Rattle.sc_history.specs.Names.{is_empty, is_name, part_of}
+use Rattle.sc_history.specs.History.{replay, stamp, added, kept_from, join_all}
 use Rattle.sc_history.specs.Part.{Part, lookup, AreInOrder}
 
 -- the additions after a revision
@@ -47,3 +48,20 @@ installed stamp hull part = with_bounds (bounds_after stamp hull part) part
 pub record AreInstalled (name : PartName) (stamp : ℕ) (hull : Extent) (old new : List Part) : Type 0 where
   pub rise : AreInOrder new
   pub each : (other : PartName) → lookup other new ≡ (if is_name name other then option_map (installed stamp hull) (lookup name old) else lookup other old)
+
+-- ---- the same by the history alone
+
+-- Gone where the name has no items; Exact where its stamp is this revision; TooOld where an addition since isn't kept; else Joined
+abbrev pub answer_in : List Change → PartName → ℕ → Installed
+answer_in past name revision =
+    if is_empty (part_of (replay past) name) then Gone
+    else if revision == stamp past name then Exact
+    else if nat_lt revision (kept_from past name) then TooOld (kept_from past name)
+    else Joined
+
+-- the bounds that it leaves of these: where it is joined, what lies within them, and within the hull or one of all additions since
+abbrev pub bounds_in : List Change → PartName → ℕ → Extent → Extent → Extent
+bounds_in past name revision hull bounds =
+    if revision == stamp past name then hull
+    else if nat_lt revision (kept_from past name) then bounds
+    else meet_of bounds (join_all hull (later revision (added past name)))

@@ -1,20 +1,20 @@
--- Parts of a content by their names: which items they have, and the order of names.
+-- Parts of a content by their names: which items they have, and the order of names. How items fit a name, stand and lie is said of the parts themselves.
 use Rattle.std.specs.Prelude.{◌≡◌, ◌↔◌, ℕ, Bool, true, false, ◌&&◌, ◌==◌, ℤ, pos, int_le, List, [], ◌∷◌, map, filter, Contains}
 use Rattle.std.specs.Str.{bytes_eq}
 use Rattle.std.specs.List.{list_any, AllPairs}
 use Rattle.std.specs.declared.cmp.Ordering.{Ordering}
 use Rattle.std.specs.declared.cmp.Ordering.TheVariants.{Less}
-use Rattle.std.specs.Ordering.{nat_cmp, int_cmp, int_eq, then_cmp, flip_args, on}
-use Rattle.sqlite_keyed.specs.Lists.{sort_by}
+use Rattle.std.specs.Ordering.{nat_cmp, int_cmp, int_eq, then_cmp, on}
 use Rattle.sc_base.specs.Text.{text_order}
 use Rattle.sc_item.specs.Feature.{Feature}
 use Rattle.sc_cut.specs.declared.cut.Cut.{Cut}
 use Rattle.sc_cut.specs.declared.cut.Cut.TheVariants.{Whole, Year, Month}
 use Rattle.sc_cut.specs.declared.name.PartName.{PartName}
-use Rattle.sc_cut.specs.Key.{HasKey, has_key}
-use Rattle.sc_bounds.specs.declared.reach.Reach.{Reach}
+use Rattle.sc_cut.specs.Key.{has_key}
 use Rattle.sc_bounds.specs.Extent.{Extent}
 use Rattle.sc_bounds.specs.Sets.{hull}
+pub use Rattle.sc_part.specs.Scan.{Fits, scan_order, reach}
+unfoldable pub use Rattle.sc_part.specs.Scan.{scan_of}
 use Rattle.sc_history.specs.Content.{Collection, Content, is_called}
 
 -- ---- names
@@ -43,12 +43,7 @@ is_key Whole key = int_eq key (pos 0)
 is_key Year key = int_le (pos 0) key && int_le key (pos 9_999)
 is_key Month key = int_le (pos 0) key && int_le key (pos 119_999)
 
--- the item is of the name's collection, and its start has the name's key
-pub record Fits (name : PartName) (item : Feature) : Type 0 where
-  pub collection : item.collection ≡ name.collection
-  pub key : HasKey name.cut name.key item.start
-
--- the same as a test
+-- whether the item fits the name, as a test
 abbrev pub fits : PartName → Feature → Bool
 fits name item = bytes_eq item.collection name.collection && is_key name.cut name.key && has_key name.cut name.key item.start
 
@@ -73,20 +68,6 @@ is_empty (x ∷ xs) = false
 pub record ArePartsOf (content : Content) (names : List PartName) : Type 0 where
   pub rise : AllPairs (λ a b. name_order a b ≡ Less) names
   pub all : (name : PartName) → Contains names name ↔ (is_empty (part_of content name) ≡ false)
-
--- ---- how items stand and lie
-
--- the later start comes first, then the lesser id
-abbrev pub scan_order : Feature → Feature → Ordering
-scan_order = then_cmp (flip_args (on (λ i. i.start) int_cmp)) (on (λ i. i.id) text_order)
-
--- items in the order of a scan
-unfoldable pub scan_of : List Feature → List Feature
-scan_of items = sort_by scan_order items
-
--- where an item lies in time and space
-abbrev pub reach : Feature → Reach
-reach item = record { start = item.start; end = item.end; place = item.place }
 
 -- the smallest bounds that cover the items
 abbrev pub hull_of : List Feature → Extent

@@ -1,6 +1,7 @@
 -- What contracts see of a part that a catalogue keeps, and how parts are found by name.
 use Rattle.std.specs.Prelude.{◌≡◌, ℕ, List, Option, find}
 use Rattle.std.specs.List.{AllPairs}
+use Rattle.std.specs.Option.{option_map}
 use Rattle.std.specs.declared.cmp.Ordering.TheVariants.{Less}
 use Rattle.sc_item.specs.Feature.{Feature}
 use Rattle.sc_cut.specs.declared.name.PartName.{PartName}
@@ -20,6 +21,10 @@ pub record Part : Type 0 where
 -- the part with the name
 abbrev pub lookup : PartName → List Part → Option Part
 lookup name parts = find (λ part. is_name part.name name) parts
+
+-- the bounds of the part with the name
+abbrev pub bounds_of : PartName → List Part → Option Extent
+bounds_of name parts = option_map (λ part. part.bounds) (lookup name parts)
 
 -- the names rise
 abbrev pub AreInOrder : List Part → Type 0

@@ -1,5 +1,5 @@
 -- Why a load is refused: the first fault that holds, in the order of their enum. Want of memory is none of them.
-use Rattle.std.specs.Prelude.{◌≡◌, ℕ, ◌+◌, ◌-◌, ◌^◌, ◌≤◌, ◌<◌, ◌⊎◌, min, Bool, List, [], ◌∷◌, Option, Some, None, length, map, find, if◌then◌else◌}
+use Rattle.std.specs.Prelude.{◌≡◌, ◌≢◌, ℕ, ◌+◌, ◌-◌, ◌^◌, ◌≤◌, ◌<◌, ◌⊎◌, min, Bool, true, false, List, [], ◌∷◌, Option, Some, None, length, map, find, if◌then◌else◌}
 use Rattle.std.specs.Option.{option_map}
 use Rattle.std.specs.List.{sum_by}
 use Rattle.std.specs.Arc.{arc_value}
@@ -69,6 +69,10 @@ pub record FailsToPatch (items : List Feature) (collection id : List ℕ) (patch
 abbrev pub HasBadPatch : List Feature → Load → ItemFault → Type 0
 HasBadPatch items (Patch collection id patch) fault = FailsToPatch items collection id patch fault
 HasBadPatch items load fault = ⊥
+
+abbrev pub is_patch : Load → Bool
+is_patch (Patch collection id patch) = true
+is_patch load = false
 
 -- ---- by the limits
 
@@ -145,6 +149,12 @@ IsRefused past load (HistoryFull entries bytes) = OverfillsHistory past load ent
 IsRefused past load (PartitionsFull count) = MakesTooManyParts past load count
 IsRefused past load (CollectionsFull count) = MakesTooManyCollections past load count
 IsRefused past load OutOfMemory = Unit {0}
+
+-- there is one, and it isn't want of memory
+pub record HasFault (past : List Change) (load : Load) : Type 0 where
+  pub fault : LoadFault
+  pub refused : IsRefused past load fault
+  pub not_memory : fault ≢ OutOfMemory
 
 -- no fault holds
 pub record IsAccepted (past : List Change) (change : Change) : Type 0 where

@@ -1,13 +1,15 @@
 -- What one load makes of the parts that it touches; the others stay.
 use Rattle.std.specs.Prelude.{◌≡◌, ℕ, ◌+◌, ◌-◌, Bool, false, not, List, [], ◌∷◌, ◌++◌, Option, Some, None, length, map, filter, take, drop, if◌then◌else◌}
 use Rattle.std.specs.List.{list_any}
+use Rattle.std.specs.Option.{option_map}
 use Rattle.sc_item.specs.Feature.{Feature}
 use Rattle.sc_cut.specs.declared.name.PartName.{PartName}
+use Rattle.sc_bounds.specs.Extent.{Extent}
 use Rattle.sc_bounds.specs.Sets.{join_of}
 use Rattle.sc_load.specs.declared.load.Load.{Load}
-use Rattle.sc_history.specs.Changes.{Change, goes, takes}
-use Rattle.sc_history.specs.Names.{scan_of, hull_of, is_empty}
-use Rattle.sc_history.specs.History.{replay, comes, touches, first_revision}
+use Rattle.sc_history.specs.Changes.{Change, apply, goes, takes}
+use Rattle.sc_history.specs.Names.{scan_of, hull_of, is_empty, part_of}
+use Rattle.sc_history.specs.History.{replay, comes, touches, makes, first_revision}
 use Rattle.sc_history.specs.Part.{Part, lookup, AreInOrder}
 
 -- the items without those that are taken and with those that come, in no order
@@ -75,3 +77,12 @@ pub record ArePublished (past : List Change) (change : Change) (old new : List P
 -- the names of the parts that the change touched and that are there after it, in order
 abbrev pub touched_names : List Change → Change → List Part → List PartName
 touched_names past change new = filter (touches (replay past) change) (map (λ part. part.name) new)
+
+-- the bounds of a name after a change, by the history and the bounds before: a name without items has none; where nothing comes they stay; they are the hull of
+-- what comes where the change makes the part, and else its join with them
+abbrev pub bounds_next : List Change → Change → PartName → Option Extent → Option Extent
+bounds_next past change name bounds =
+    if is_empty (part_of (apply (replay past) change) name) then None
+    else if is_empty (comes (replay past) change name) then bounds
+    else if makes (replay past) change name then Some (hull_of (comes (replay past) change name))
+    else option_map (λ b. join_of b (hull_of (comes (replay past) change name))) bounds

@@ -1,12 +1,13 @@
 //! What follows from the definitions alone. Each function has an empty body: its clauses are the laws. A history is a list
 //! of loads with the newest first, and `past` tells it as the changes that its loads made.
-ghost use Rattle.std.specs.Prelude.{◌≡◌, ◌≢◌, ◌↔◌, ℕ, ℤ, ◌^◌, ◌<◌, ◌≤◌, ◌++◌, ◌||◌, ◌&&◌, List, [], ◌∷◌, Option, Some, None, Bool, true, false, map, drop, length, codes, find, All, Contains, flat_map, IsPermutation, if◌then◌else◌};
-ghost use Rattle.std.specs.Option.{option_or};
+ghost use Rattle.std.specs.Prelude.{◌≡◌, ◌≢◌, ◌↔◌, ◌⊎◌, ℕ, ℤ, ◌^◌, ◌<◌, ◌≤◌, ◌++◌, ◌||◌, ◌&&◌, List, [], ◌∷◌, Option, Some, None, Bool, true, false, map, drop, length, codes, find, All, Contains, flat_map, IsPermutation, if◌then◌else◌};
+ghost use Rattle.std.specs.Option.{option_map, option_or};
 ghost use Rattle.std.specs.Str.{bytes_eq};
 ghost use Rattle.std.specs.List.{list_any, sum_by};
 ghost use Rattle.std.specs.declared.alloc.Global.{Global};
 ghost use Rattle.std.specs.declared.sync.Arc.{Arc};
 ghost use Rattle.sc_json.specs.declared.tree.Json.{Json};
+ghost use Rattle.sc_item.specs.declared.fault.ItemFault.{ItemFault};
 ghost use Rattle.sc_item.specs.Feature.{Feature};
 ghost use Rattle.sc_item.specs.Names.{AreApart};
 ghost use Rattle.sc_cut.specs.declared.cut.Cut.{Cut};
@@ -17,17 +18,17 @@ ghost use Rattle.sc_load.specs.declared.load.Load.{Load};
 ghost use Rattle.sc_load.specs.declared.load.Load.TheVariants.{AddCollection, DropCollection};
 ghost use Rattle.sc_load.specs.declared.fault.LoadFault.{LoadFault};
 ghost use Rattle.sc_load.specs.declared.fault.LoadFault.TheVariants as faults;
-ghost use Rattle.sc_load.specs.Load.{IsItemOf, collection_of, size_of};
+ghost use Rattle.sc_load.specs.Load.{IsItemOf, IsWellFormed, collection_of, items_of, size_of};
 ghost use Rattle.sc_history.specs.Content.{Collection, Content, IsContent, has_item, is_called, item_in};
-ghost use Rattle.sc_history.specs.Changes.{Change, apply, collections_after, takes};
+ghost use Rattle.sc_history.specs.Changes.{Change, Puts, apply, collections_after, takes};
 ghost use Rattle.sc_history.specs.Names.{ArePartsOf, Fits, belongs, fits, hull_of, is_cut, has_cut, part_of, scan_of};
 ghost use Rattle.sc_history.specs.History.{replay, back, touches, stamp, birth, additions, first_revision, kept_from};
-ghost use Rattle.sc_history.specs.Refusals.{HasFewCollections, HasFewParts, IsAccepted, IsAllowed, IsRefused};
+ghost use Rattle.sc_history.specs.Refusals.{HasBadPatch, HasFault, HasFewCollections, HasFewParts, IsAccepted, IsAllowed, IsRefused, is_patch, plain_fault};
 ghost use Rattle.sc_history.specs.Taken.{IsPast, Tells};
-ghost use Rattle.sc_history.specs.Part.{Part, lookup};
-ghost use Rattle.sc_history.specs.Touch.{ArePublished, loses, touched};
+ghost use Rattle.sc_history.specs.Part.{Part, bounds_of, lookup};
+ghost use Rattle.sc_history.specs.Touch.{ArePublished, bounds_next, loses, touched};
 ghost use Rattle.sc_history.specs.Sound.{Sound, Stand, StandsAs};
-ghost use Rattle.sc_history.specs.Installs.{AreInstalled, answer, bounds_after};
+ghost use Rattle.sc_history.specs.Installs.{AreInstalled, answer, answer_in, bounds_after, bounds_in};
 ghost use Rattle.sc_history.specs.declared.installed.Installed.TheVariants.{TooOld};
 ghost use Rattle.sc_history.specs.Views.{IsSnapshot, IsStamp, IsTicket, IsTight, Snap};
 ghost use Rattle.sc_history.specs.Example.{IsExample, april, march, one_a_revision, one_again, one_moved, scene};
@@ -60,6 +61,17 @@ pub fn one_first_fault()
         fault ≡ faults.OutOfMemory }
     ensures first { (past : List Change) (load : Load) (one other : LoadFault) → IsRefused past load one → IsRefused past load other →
         (one ≢ faults.OutOfMemory) → (other ≢ faults.OutOfMemory) → one ≡ other }
+{}
+
+/// Each load that isn't a patch is accepted, or refused with a fault that isn't want of memory. So is a patch that makes an
+/// item of the one that it names. One that can't be made is refused, and so is every load with a fault that needs no patch.
+pub fn accepted_or_refused()
+    ensures others { (past : List Change) (load : Load) → IsPast past → IsWellFormed load → is_patch load ≡ false →
+        IsAccepted past (record { load = load; come = items_of load }) ⊎ HasFault past load }
+    ensures made { (past : List Change) (change : Change) → IsPast past → IsWellFormed change.load →
+        Puts (replay past).items change.load change.come → IsAccepted past change ⊎ HasFault past change.load }
+    ensures bad { (past : List Change) (load : Load) (fault : ItemFault) → HasBadPatch (replay past).items load fault → HasFault past load }
+    ensures plain { (past : List Change) (load : Load) (fault : LoadFault) → plain_fault (replay past) load ≡ Some fault → HasFault past load }
 {}
 
 /// An item of a content, or of a part that stands, is found by its collection and id. After a load it is found among those
@@ -98,6 +110,7 @@ pub fn one_part_an_item()
 
 /// A content has one list of the names of its parts, and these parts have its items, each once.
 pub fn one_list_of_parts()
+    ensures there { (content : Content) → IsContent content → (names : List PartName) × ArePartsOf content names }
     ensures names { (content : Content) (names others : List PartName) → ArePartsOf content names → ArePartsOf content others → names ≡ others }
     ensures items { (content : Content) (names : List PartName) → IsContent content → ArePartsOf content names →
         IsPermutation content.items (flat_map (part_of content) names) }
@@ -153,6 +166,20 @@ pub fn an_install_keeps_sound()
         (is : Sound history collections old) → IsTight is.past name stamp hull → AreInstalled name stamp hull old new → Sound history collections new }
     ensures narrows { (past : List Change) (name : PartName) (stamp : ℕ) (hull : Extent) (part : Part) → IsPast past → StandsAs past name part →
         IsTight past name stamp hull → IsWithin (bounds_after stamp hull part) part.bounds }
+{}
+
+/// What an install answers, and the bounds that it leaves, by the history alone: the parts that stand hold nothing more.
+pub fn an_install_by_the_history()
+    ensures answer { (past : List Change) (parts : List Part) (name : PartName) (revision : ℕ) → Stand past parts →
+        answer revision (lookup name parts) ≡ answer_in past name revision }
+    ensures bounds { (past : List Change) (name : PartName) (revision : ℕ) (hull : Extent) (old new : List Part) → Stand past old →
+        AreInstalled name revision hull old new → bounds_of name new ≡ option_map (bounds_in past name revision hull) (bounds_of name old) }
+{}
+
+/// A load that is allowed moves the bounds of each name as the history says.
+pub fn a_load_moves_bounds()
+    ensures { (past : List Change) (change : Change) (old new : List Part) (name : PartName) → IsPast past → IsAllowed (replay past) change →
+        Stand past old → ArePublished past change old new → bounds_of name new ≡ bounds_next past change name (bounds_of name old) }
 {}
 
 /// A snapshot has what stands, a ticket the items of a part that stands, and the hull of its items is tight.
