@@ -1,40 +1,76 @@
 -- What is found among items that are put one after the other, the last of a list first.
-use Rattle.std.proofs.Common.{◌≡◌, ℕ, Bool, true, false, cond, List, [], ◌∷◌, ◌++◌, Option, Some, None, map, find, option_map, refl, sym, ap, ◌∙◌, bytes_eq}
-use Rattle.std.specs.Option.{option_or, option_and_then}
+use Rattle.std.proofs.Common.{◌≡◌, ℕ, Bool, true, false, cond, List, [], ◌∷◌, ◌++◌, Option, Some, None, map, find, refl, sym, ap, ◌∙◌, bytes_eq}
+use Rattle.std.specs.Option.{is_some, option_or, option_and_then}
 use Rattle.std.specs.List.{AllByRecursion, All}
 use Rattle.std.specs.Arc.{arc_value}
+use Rattle.std.specs.BTreeMap.{BTreeMap, get}
+use Rattle.std.specs.Ordering.{is_eq}
 use Rattle.std.specs.Cmp.Lexicographic.{bytes_decides}
-use Rattle.std.proofs.lemmas.List.Elements.{recursion_from_All, All-from_recursion}
-use Rattle.sc_item.specs.Feature.{Feature}
-use Rattle.sc_history.specs.Content.{item_in}
+use Rattle.std.proofs.lemmas.List.Elements.{recursion_from_All}
 use Rattle.std.specs.declared.alloc.Global.{Global}
 use Rattle.std.specs.declared.sync.Arc.{Arc}
-use Rattle.sc_index.specs.Arriving.{AreUnderIds}
-use Rattle.sc_index.specs.declared.arrivals.Arrival.{Arrival}
+use Rattle.sc_base.specs.Text.{text_order}
+use Rattle.sc_item.specs.Feature.{Feature}
+use Rattle.sc_history.specs.Content.{item_in}
+use Rattle.sc_index.specs.Found.{Places, held}
+use Rattle.sc_index.proofs.Placing.{same_place, text_at}
 
 -- the item has the id
 abbrev pub has_id : List ℕ → Feature → Bool
 has_id id item = bytes_eq item.id id
 
--- the first item with the id among those that are to be put
-abbrev pub arrived : List ℕ → List Arrival → Option Feature
-arrived id entries = find (has_id id) (map (λ entry. arc_value entry.item) entries)
+-- the first of the items that has the id
+abbrev pub first_with : List ℕ → List (Arc Feature Global) → Option Feature
+first_with id items = find (has_id id) (map arc_value items)
 
-pub arrived-push : (id : List ℕ) (entries : List Arrival) (last : Arrival) (other : Option Feature) → option_or (arrived id (entries ++ last ∷ [])) other ≡ option_or (arrived id entries) (cond (has_id id (arc_value last.item)) (Some (arc_value last.item)) other)
-arrived-push id [] last other = go (has_id id (arc_value last.item))
+first_pushed : (id : List ℕ) (items : List (Arc Feature Global)) (last : Arc Feature Global) (other : Option Feature) → option_or (first_with id (items ++ last ∷ [])) other ≡ option_or (first_with id items) (cond (has_id id (arc_value last)) (Some (arc_value last)) other)
+first_pushed id [] last other = go (has_id id (arc_value last))
   where
-    go : (b : Bool) → option_or (cond b (Some (arc_value last.item)) None) other ≡ cond b (Some (arc_value last.item)) other
+    go : (b : Bool) → option_or (cond b (Some (arc_value last)) None) other ≡ cond b (Some (arc_value last)) other
     go true = refl
     go false = refl
-arrived-push id (e ∷ entries) last other = go (has_id id (arc_value e.item)) (arrived-push id entries last other)
+first_pushed id (x ∷ items) last other = go (has_id id (arc_value x)) (first_pushed id items last other)
   where
     rest : Option Feature
-    rest = cond (has_id id (arc_value last.item)) (Some (arc_value last.item)) other
+    rest = cond (has_id id (arc_value last)) (Some (arc_value last)) other
 
-    go : (b : Bool) → option_or (arrived id (entries ++ last ∷ [])) other ≡ option_or (arrived id entries) rest
-        → option_or (cond b (Some (arc_value e.item)) (arrived id (entries ++ last ∷ []))) other ≡ option_or (cond b (Some (arc_value e.item)) (arrived id entries)) rest
+    go : (b : Bool) → option_or (first_with id (items ++ last ∷ [])) other ≡ option_or (first_with id items) rest
+        → option_or (cond b (Some (arc_value x)) (first_with id (items ++ last ∷ []))) other ≡ option_or (cond b (Some (arc_value x)) (first_with id items)) rest
     go true more = refl
     go false more = more
+
+-- where the last one is put, the others are left
+pub put_step : (id : List ℕ) (items : List (Arc Feature Global)) (last : Arc Feature Global) (old new all : Option Feature)
+    → new ≡ cond (has_id id (arc_value last)) (Some (arc_value last)) old → option_or (first_with id (items ++ last ∷ [])) old ≡ all → option_or (first_with id items) new ≡ all
+put_step id items last old new all is e = ap (λ o. option_or (first_with id items) o) is ∙ (sym (first_pushed id items last old) ∙ e)
+
+-- where a collection gets places that hold nothing, all that is found stays
+pub collection_made : (old new : BTreeMap (List ℕ) Places) (collection other id : List ℕ) (empty : Places) → empty.entries ≡ [] → is_some (get text_order old collection) ≡ false
+    → get text_order new other ≡ cond (is_eq (text_order collection other)) (Some empty) (get text_order old other) → option_and_then (λ places. held places id) (get text_order new other) ≡ option_and_then (λ places. held places id) (get text_order old other)
+collection_made old new collection other id empty bare none now = go (is_eq (text_order collection other)) refl now
+  where
+    nowhere : (o : Option Places) → is_some o ≡ false → None ≡ option_and_then (λ places. held places id) o
+    nowhere None e = refl
+    nowhere (Some places) e = absurd cc
+
+    nothing : held empty id ≡ None
+    nothing = rw bare refl
+
+    go : (b : Bool) → is_eq (text_order collection other) ≡ b → get text_order new other ≡ cond b (Some empty) (get text_order old other)
+        → option_and_then (λ places. held places id) (get text_order new other) ≡ option_and_then (λ places. held places id) (get text_order old other)
+    go false e put = rw put refl
+    go true e put = ap (option_and_then (λ places. held places id)) put ∙ (nothing ∙ (nowhere (get text_order old collection) none ∙ ap (λ c. option_and_then (λ places. held places id) (get text_order old c)) (sym (same_place collection other e))))
+
+-- where the places of a collection hold what they held, all that is found stays
+pub places_found : (old new : BTreeMap (List ℕ) Places) (collection other id : List ℕ) (before after : Places) → get text_order old collection ≡ Some before
+    → get text_order new other ≡ cond (is_eq (text_order collection other)) (Some after) (get text_order old other) → held after id ≡ held before id
+    → option_and_then (λ places. held places id) (get text_order new other) ≡ option_and_then (λ places. held places id) (get text_order old other)
+places_found old new collection other id before after was now same = go (is_eq (text_order collection other)) refl now
+  where
+    go : (b : Bool) → is_eq (text_order collection other) ≡ b → get text_order new other ≡ cond b (Some after) (get text_order old other)
+        → option_and_then (λ places. held places id) (get text_order new other) ≡ option_and_then (λ places. held places id) (get text_order old other)
+    go false e put = rw put refl
+    go true e put = rw (put, same_place collection other e, was) same
 
 -- ---- the items of one collection, found among all
 
@@ -51,46 +87,16 @@ found_elsewhere collection other id (x ∷ items) all apart =
     rw same (found_elsewhere collection other id items all.1 apart)
 
 -- where the items of one collection are put, by a look-up of the collection and then one of the id
-pub put_found : {M : Type 0} (look : M → List ℕ → Option Feature) (f g : List ℕ → Option M) (collection other id : List ℕ) (before after : M) (items : List Feature)
-    → All (λ item. item.collection ≡ collection) items → f collection ≡ Some before → ((q : List ℕ) → g q ≡ cond (bytes_eq collection q) (Some after) (f q))
-    → ((q : List ℕ) → look after q ≡ option_or (find (has_id q) items) (look before q))
-    → option_and_then (λ m. look m id) (g other) ≡ option_or (item_in items other id) (option_and_then (λ m. look m id) (f other))
-put_found {M} look f g collection other id before after items all was now put = go (bytes_eq collection other) refl
+pub put_found : (old new : BTreeMap (List ℕ) Places) (collection other id : List ℕ) (before after : Places) (items : List Feature) → All (λ item. item.collection ≡ collection) items
+    → get text_order old collection ≡ Some before → get text_order new other ≡ cond (is_eq (text_order collection other)) (Some after) (get text_order old other) → held after id ≡ option_or (find (has_id id) items) (held before id)
+    → option_and_then (λ places. held places id) (get text_order new other) ≡ option_or (item_in items other id) (option_and_then (λ places. held places id) (get text_order old other))
+put_found old new collection other id before after items all was now put = go (bytes_eq collection other) refl
   where
     each : AllByRecursion (λ item. item.collection ≡ collection) items
     each = recursion_from_All (λ item. item.collection ≡ collection) items all
 
-    go : (b : Bool) → bytes_eq collection other ≡ b → option_and_then (λ m. look m id) (g other) ≡ option_or (item_in items other id) (option_and_then (λ m. look m id) (f other))
+    go : (b : Bool) → bytes_eq collection other ≡ b → option_and_then (λ places. held places id) (get text_order new other) ≡ option_or (item_in items other id) (option_and_then (λ places. held places id) (get text_order old other))
     go true e =
         let same : other ≡ collection = sym ((bytes_decides collection other).0 e) in
-        rw (now other, e, same, was, found_of collection id items each) (put id)
-    go false e = rw (now other, e, found_elsewhere collection other id items each e) refl
-
--- ---- one item of many
-
-one_put : (id : List ℕ) (last : Arrival) (old : Option (Arc Feature Global)) → last.id ≡ (arc_value last.item).id
-    → option_map arc_value (cond (bytes_eq last.id id) (Some last.item) old) ≡ cond (has_id id (arc_value last.item)) (Some (arc_value last.item)) (option_map arc_value old)
-one_put id last old own = rw own (go (bytes_eq (arc_value last.item).id id))
-  where
-    go : (b : Bool) → option_map arc_value (cond b (Some last.item) old) ≡ cond b (Some (arc_value last.item)) (option_map arc_value old)
-    go true = refl
-    go false = refl
-
--- where the last one is put, the others are left
-pub put_step : (id : List ℕ) (entries : List Arrival) (last : Arrival) (old new : Option (Arc Feature Global)) (all : Option Feature) → last.id ≡ (arc_value last.item).id
-    → new ≡ cond (bytes_eq last.id id) (Some last.item) old → option_or (arrived id (entries ++ last ∷ [])) (option_map arc_value old) ≡ all → option_or (arrived id entries) (option_map arc_value new) ≡ all
-put_step id entries last old new all own is e =
-    ap (λ o. option_or (arrived id entries) o) (ap (option_map arc_value) is ∙ one_put id last old own) ∙ (sym (arrived-push id entries last (option_map arc_value old)) ∙ e)
-
-abbrev Owns : Arrival → Type 0
-Owns entry = entry.id ≡ (arc_value entry.item).id
-
-split_last : (entries : List Arrival) (last : Arrival) → AllByRecursion Owns (entries ++ last ∷ []) → Owns last × AllByRecursion Owns entries
-split_last [] last are = (are.0, tt)
-split_last (e ∷ entries) last are = let more = split_last entries last are.1 in (more.0, (are.0, more.1))
-
--- of entries that stand under their ids, the last and the others do
-pub last_own : (entries : List Arrival) (last : Arrival) → AreUnderIds (entries ++ last ∷ []) → (last.id ≡ (arc_value last.item).id) × AreUnderIds entries
-last_own entries last are =
-    let both = split_last entries last (recursion_from_All Owns (entries ++ last ∷ []) are) in
-    (both.0, All-from_recursion Owns entries both.1)
+        rw (now, text_at collection other, e, same, was, found_of collection id items each) put
+    go false e = rw (now, text_at collection other, e, found_elsewhere collection other id items each e) refl
