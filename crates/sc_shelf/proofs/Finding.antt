@@ -1,9 +1,10 @@
 -- How an item is found among the items of parts by its collection and id.
-use Rattle.std.proofs.Common.{◌≡◌, ◌≢◌, ℕ, ◌+◌, ◌<◌, Bool, true, false, cond, List, [], ◌∷◌, ◌++◌, length, get_or, drop, Option, Some, None, refl, sym, ap, ◌∙◌, subst, bytes_eq}
-use Rattle.std.specs.Prelude.{find}
+use Rattle.std.proofs.Common.{◌≡◌, ◌≢◌, ℕ, ◌+◌, ◌<◌, ◌≤◌, Bool, true, false, cond, List, [], ◌∷◌, ◌++◌, length, get_or, take, drop, Option, Some, None, refl, sym, ap, ◌∙◌, subst, arith, bytes_eq}
+use Rattle.std.specs.Prelude.{find, OnErr, Result, Ok, Err}
 use Rattle.std.specs.List.{All, AllByRecursion}
 use Rattle.std.proofs.lemmas.List.{drop_more}
 use Rattle.std.proofs.lemmas.List.Elements.{recursion_from_All}
+use Rattle.std.proofs.lemmas.List.Folds.{length-flat_map-take}
 use Rattle.sqlite_keyed.proofs.ListLemmas.{all_weaker}
 use Rattle.sc_item.specs.Feature.{Feature}
 use Rattle.sc_history.specs.Content.{is_item, item_in}
@@ -81,6 +82,17 @@ or_none None test xs ys e none = find_past test xs ys e ∙ none
 or_none (Some x) test xs ys e none = find_here test xs ys x e
 
 -- what is found among the parts of the collection is found among all
+-- what holds anyway holds where there is an error
+pub err_anyway : {T E P : Type 0} (r : Result T E) → P → OnErr r P
+err_anyway (Ok x) p = tt
+err_anyway (Err e) p = p
+
+-- where the parts before one count their items and one each, that one's with all of these are no more than all have
+pub within_all : (parts : List Part) (i : ℕ) (p : Part) (old so_far new : ℕ) → i < length parts → p ≡ get_or parts i p → so_far ≡ old + i + length (all_items (take i parts)) → new ≡ so_far + 1 + length p.items → new ≤ old + length parts + length (all_items parts)
+within_all parts i p old so_far new lt here before more =
+    let most : length (all_items (take i parts)) + length p.items ≤ length (all_items parts) = subst (λ q. length (all_items (take i parts)) + length q.items ≤ length (all_items parts)) (sym here) (length-flat_map-take (λ q. q.items) parts i p lt) in
+    omega (arith, before, more, most, lt)
+
 pub found_in_run : (collection id : List ℕ) (parts run : List Part) → AreParts parts → IsRunOf collection parts run → item_in (all_items run) collection id ≡ item_in (all_items parts) collection id
 found_in_run collection id parts run are is =
     let own = subst (AllByRecursion HasItsOwn) is.whole (recursion_from_All HasItsOwn parts are.own) in

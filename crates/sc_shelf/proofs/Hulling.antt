@@ -11,7 +11,7 @@ use Rattle.sc_bounds.specs.declared.reach.Reach.{Reach}
 use Rattle.sc_bounds.specs.Extent.{Extent, AreBounds, empty}
 use Rattle.sc_bounds.specs.Sets.{IsHull, hull, join_of, only}
 use Rattle.sc_bounds.proofs.Extents.{same_bounds}
-use Rattle.sc_part.specs.Scan.{after, is_among, scan_of as scan_of_part, shared}
+use Rattle.sc_part.specs.Scan.{after, is_among, shared}
 use Rattle.sc_history.specs.Names.{hull_of, reach, scan_of}
 use Rattle.sc_history.proofs.Hulls.{IsBoxed, hull_covers, hull_in_order, hull_least}
 use Rattle.sc_history.proofs.Scans.{all_scanned}
@@ -21,21 +21,13 @@ use Rattle.sc_shelf.specs.Boxes.{AreBoxed}
 pub only_hull : (hull : Extent) (items : List Feature) → AreBounds hull → AreBoxed items → IsHull hull (map reach items) → hull ≡ hull_of items
 only_hull hull items ok boxed is = same_bounds hull (hull_of items) ok (hull_in_order items boxed) (is.least (hull_of items) (hull_covers items boxed)) (hull_least hull items boxed is.covers)
 
--- the scan of a part's items is the same in both words
-pub one_scan : (items : List Feature) → scan_of_part items ≡ scan_of items
-unfolding scan_of_part scan_of
-one_scan items = refl
-
 -- what comes into no items
-pub scan_of_come : (come : List Feature) → scan_of_part (after [] come []) ≡ scan_of come
-scan_of_come come = one_scan (come ++ []) ∙ ap scan_of (append-nil come)
+pub scan_of_come : (come : List Feature) → scan_of (after [] come []) ≡ scan_of come
+scan_of_come come = ap scan_of (append-nil come)
 
-pub boxed_scan : (items : List Feature) → AreBoxed items → AreBoxed (scan_of_part items)
-boxed_scan items boxed = subst AreBoxed (sym (one_scan items)) (all_scanned IsBoxed items boxed)
-
-pub boxed_after : (gone : List (List ℕ)) (come items : List Feature) → AreBoxed come → AreBoxed items → AreBoxed (scan_of_part (after gone come items))
+pub boxed_after : (gone : List (List ℕ)) (come items : List Feature) → AreBoxed come → AreBoxed items → AreBoxed (scan_of (after gone come items))
 boxed_after gone come items boxed boxed' =
-    boxed_scan (after gone come items) (All-append IsBoxed come (filter (λ i. not (is_among gone i.id)) items) boxed (All-filter (λ i. not (is_among gone i.id)) IsBoxed items boxed'))
+    all_scanned IsBoxed (after gone come items) (All-append IsBoxed come (filter (λ i. not (is_among gone i.id)) items) boxed (All-filter (λ i. not (is_among gone i.id)) IsBoxed items boxed'))
 
 -- ---- one item more
 

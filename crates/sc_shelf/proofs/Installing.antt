@@ -10,7 +10,7 @@ use Rattle.sc_cut.specs.declared.name.PartName.{PartName}
 use Rattle.sc_bounds.specs.Extent.{Extent}
 use Rattle.sc_history.specs.Names.{is_name}
 use Rattle.sc_history.specs.Part.{Part, lookup, AreInOrder}
-use Rattle.sc_history.specs.Installs.{AreInstalled, installed}
+use Rattle.sc_history.specs.Installs.{AreInstalled, bounds_after, installed}
 use Rattle.sc_history.proofs.Lists.{ascending_from_pairs, pairs_from_ascending}
 use Rattle.sc_history.proofs.Names.{same_name}
 use Rattle.sc_shelf.specs.Changed.{AreWithout}
@@ -18,6 +18,7 @@ use Rattle.sc_shelf.specs.Kept.{AreParts, HasItsOwn}
 use Rattle.sc_shelf.specs.Split.{IsSplit}
 use Rattle.sc_shelf.proofs.Between.{IsAbove, IsBelow, IsNamed, Rises, ascending_split, found_between, found_other, rise_after, rise_between}
 use Rattle.sc_shelf.proofs.Owning.{IsOwn, found_own, parts_own, some_weaker}
+use Rattle.sc_shelf.proofs.Touching.{same_part}
 
 -- ---- installs
 
@@ -60,6 +61,23 @@ are_installed name stamp hull old before here after rise split = record { rise =
     each other false e =
         rw e (ap (lookup other) whole ∙ found_other name other before (option_map (installed stamp hull) here) after named e
         ∙ sym (ap (lookup other) split.whole ∙ found_other name other before here after split.named e))
+
+-- where the part with the name stays as it is, so do all
+stays_installed : (name : PartName) (stamp : ℕ) (hull : Extent) (old : List Part) → AreInOrder old → option_map (installed stamp hull) (lookup name old) ≡ lookup name old → AreInstalled name stamp hull old old
+stays_installed name stamp hull old rise same = record { rise = rise; each = λ other. each other (is_name name other) refl }
+  where
+    each : (other : PartName) (t : Bool) → is_name name other ≡ t → lookup other old ≡ cond (is_name name other) (option_map (installed stamp hull) (lookup name old)) (lookup other old)
+    each other true e = rw e (subst (λ n. lookup n old ≡ option_map (installed stamp hull) (lookup name old)) (same_name name other e) (sym same))
+    each other false e = rw e refl
+
+-- no part with the name
+pub none_installed : (name : PartName) (stamp : ℕ) (hull : Extent) (old : List Part) → AreInOrder old → lookup name old ≡ None → AreInstalled name stamp hull old old
+none_installed name stamp hull old rise none = stays_installed name stamp hull old rise (rw none refl)
+
+-- a part with the name that has those bounds already
+pub same_installed : (name : PartName) (stamp : ℕ) (hull : Extent) (old : List Part) (part : Part) → AreInOrder old → lookup name old ≡ Some part → bounds_after stamp hull part ≡ part.bounds → AreInstalled name stamp hull old old
+same_installed name stamp hull old part rise found same =
+    stays_installed name stamp hull old rise (ap (option_map (installed stamp hull)) found ∙ ap Some (same_part (installed stamp hull part) part refl refl refl same refl refl) ∙ sym found)
 
 installed_own : (name : PartName) (stamp : ℕ) (hull : Extent) (part : Option Part) → IfSome part (IsOwn name) → IfSome (option_map (installed stamp hull) part) HasItsOwn
 installed_own name stamp hull None own = tt

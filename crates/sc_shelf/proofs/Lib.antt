@@ -4,6 +4,7 @@ pub mod Midway
 pub mod Owning
 pub mod Hulling
 pub mod Touching
+pub mod Same
 pub mod Installing
 pub mod Finding
 pub mod Publishing

@@ -1,50 +1,21 @@
 -- Parts whose names rise, on both sides of a name, and the run of those of one collection.
-use Rattle.std.proofs.Common.{◌≡◌, ◌≢◌, ℕ, ◌+◌, ◌<◌, ◌≤◌, ⊎_elim, Bool, true, false, List, ◌∷◌, ◌++◌, length, get_or, take, drop, Option, Some, None, refl, sym, ap, ◌∙◌, subst, arith, eq-eqb, Ordering, Less, Equal, Greater, is_lt, is_gt, is_eq, true≢false, bytes_eq}
+use Rattle.std.proofs.Common.{◌≡◌, ◌≢◌, ℕ, ◌+◌, ◌<◌, ◌≤◌, ⊎_elim, Bool, true, false, List, ◌∷◌, ◌++◌, length, get_or, take, drop, Option, Some, None, refl, sym, ap, ◌∙◌, subst, arith, Ordering, Less, Equal, Greater, is_lt, is_gt, true≢false, bytes_eq}
 use Rattle.std.specs.List.{All, AllWithin}
 use Rattle.std.specs.List.Sorted.{IsPartitionedBy, IsPartitionPoint, IsSortedBy}
-use Rattle.std.specs.Ordering.{int_cmp, nat_cmp, ordering_then, ordering_reverse}
-use Rattle.std.specs.Cmp.Lexicographic.{texts_ties}
+use Rattle.std.specs.Ordering.{ordering_then, ordering_reverse}
 use Rattle.std.proofs.lemmas.Bool.{cases_lt}
-use Rattle.std.proofs.lemmas.Cmp.{by_ranked, ranked, int_ranked, nat_list_cmp_total, tied_itself}
+use Rattle.std.proofs.lemmas.Cmp.{nat_list_cmp_total, tied_itself}
 use Rattle.std.proofs.lemmas.List.{take-append-drop, drop_more, get_or_default, get_or-take, get_or-drop, length-take-le, length-drop}
 use Rattle.sc_base.specs.Text.{text_order}
 use Rattle.sc_cut.specs.declared.name.PartName.{PartName}
-use Rattle.sc_history.specs.Names.{cut_place, name_order}
+use Rattle.sc_history.specs.Names.{name_order}
 use Rattle.sc_history.specs.Part.{Part, AreInOrder, lookup}
-use Rattle.sc_history.proofs.Names.{name_total, same_cut}
+use Rattle.sc_history.proofs.Names.{name_tie, name_total, name_turned, text_tie}
 use Rattle.sc_history.proofs.Texts.{same_text, text_self}
 use Rattle.sc_shelf.specs.Split.{IsSplit}
 use Rattle.sc_shelf.specs.Run.{IsRunOf}
 use Rattle.std.proofs.lemmas.List.Elements.{recursion_from_All}
 use Rattle.sc_shelf.proofs.Between.{IsAbove, IsBelow, found_between}
-
--- ---- names that tie are one
-
-then_equal : (o p : Ordering) → ordering_then o p ≡ Equal → (o ≡ Equal) × (p ≡ Equal)
-then_equal Less p e = cc
-then_equal Equal p e = (refl, e)
-then_equal Greater p e = cc
-
-text_tie : (a b : List ℕ) → text_order a b ≡ Equal → a ≡ b
-text_tie a b e = same_text a b (texts_ties a b ∙ ap is_eq e)
-
-number_tie : (x y : ℕ) → nat_cmp x y ≡ Equal → x ≡ y
-number_tie x y e = by_ranked _ _ _ (nat_cmp x y) (ranked x y (nat_cmp x y) refl) (λ l _. cc (l, e)) (λ _ h. h) (λ g _. cc (g, e))
-
-key_tie : (a b : PartName) → int_cmp a.key b.key ≡ Equal → a.key ≡ b.key
-key_tie a b e = by_ranked _ _ _ (int_cmp a.key b.key) (int_ranked a.key b.key (int_cmp a.key b.key) refl) (λ l _. cc (l, e)) (λ _ h. h) (λ g _. cc (g, e))
-
-pub name_tie : (a b : PartName) → name_order a b ≡ Equal → a ≡ b
-name_tie a b e =
-    let first = then_equal (text_order a.collection b.collection) _ e in
-    let second = then_equal (nat_cmp (cut_place a.cut) (cut_place b.cut)) _ first.1 in
-    let c = text_tie a.collection b.collection first.0 in
-    let k = same_cut a.cut b.cut (eq-eqb (cut_place a.cut) (cut_place b.cut) (number_tie (cut_place a.cut) (cut_place b.cut) second.0)) in
-    let n = key_tie a b second.1 in
-    λ i. record { collection = c i; cut = k i; key = n i }
-
-turned : (a b : PartName) → name_order a b ≡ Greater → name_order b a ≡ Less
-turned a b e = name_total.antisymm b a ∙ ap ordering_reverse e
 
 -- ---- a split
 
@@ -82,7 +53,7 @@ split_missing name parts at le (before, behind) = record {
   named = tt;
   above = λ k d low.
       let l : at + k < length parts = omega (arith, low, length-drop at parts, le) in
-      subst (λ p. name_order name p.name ≡ Less) (sym (get_or-drop at parts k d)) (turned (get_or parts (at + k) d).name name (behind (at + k) d (omega arith) l));
+      subst (λ p. name_order name p.name ≡ Less) (sym (get_or-drop at parts k d)) (name_turned (get_or parts (at + k) d).name name (behind (at + k) d (omega arith) l));
 }
 
 -- the part that has the name is the one between them

@@ -9,7 +9,7 @@ use Rattle.sc_item.specs.Feature.{Feature}
 use Rattle.sc_cut.specs.declared.name.PartName.{PartName}
 use Rattle.sc_bounds.specs.Extent.{Extent}
 use Rattle.sc_bounds.specs.Sets.{join_of}
-use Rattle.sc_part.specs.Scan.{after, scan_of as scan_of_part, shared}
+use Rattle.sc_part.specs.Scan.{after, shared}
 use Rattle.sc_part.specs.Version.{Version}
 use Rattle.sc_history.specs.declared.addition.Addition.{Addition}
 use Rattle.sc_history.specs.Changes.{is_among}
@@ -20,7 +20,6 @@ use Rattle.sc_history.specs.Touch.{made, renewed, stamped, touched, unless_empty
 use Rattle.sc_history.proofs.Scans.{scan_empty}
 use Rattle.sc_shelf.specs.declared.change.PartChange.{PartChange}
 use Rattle.sc_shelf.specs.Changed.{changed, come_by}
-use Rattle.sc_shelf.proofs.Hulling.{one_scan}
 
 -- ---- a part by its fields
 
@@ -102,11 +101,10 @@ pub kept_all : (newest : Addition) (old : List Addition) (i : ℕ) → length ol
 kept_all newest old i le few = ap (λ l. newest ∷ l) (take_all i old le ∙ sym (take_all 63 old (omega (arith, le, few))))
 
 -- the items of the version that the code makes
-pub renewed_items : (gone gone' : List (List ℕ)) (come come' : List (Arc Feature Global)) (items old old' : List Feature) → gone' ≡ gone → come' ≡ come → old' ≡ old → items ≡ scan_of_part (after gone' (shared come') old')
+pub renewed_items : (gone gone' : List (List ℕ)) (come come' : List (Arc Feature Global)) (items old old' : List Feature) → gone' ≡ gone → come' ≡ come → old' ≡ old → items ≡ scan_of (after gone' (shared come') old')
     → items ≡ scan_of (renewed (is_among gone) (shared come) old)
 renewed_items gone gone' come come' items old old' g m o is =
-    is ∙ ap (λ l. scan_of_part (after l (shared come') old')) g ∙ ap (λ l. scan_of_part (after gone (shared l) old')) m ∙ ap (λ l. scan_of_part (after gone (shared come) l)) o
-    ∙ one_scan (after gone (shared come) old)
+    is ∙ ap (λ l. scan_of (after l (shared come') old')) g ∙ ap (λ l. scan_of (after gone (shared l) old')) m ∙ ap (λ l. scan_of (after gone (shared come) l)) o
 
 pub widened_by : (revision : ℕ) (come : List Feature) (old new : Part) (version : Version) (hull : Extent) → length come ≢ 0 → hull ≡ hull_of come → version.name ≡ old.name → version.stamp ≡ revision
     → new ≡ record {

@@ -1,5 +1,5 @@
 //! What an install of a hull leaves of a list of parts.
-ghost use Rattle.std.specs.Prelude.{◌≡◌, ◌++◌, IfOk, OnOk, Some, option_map};
+ghost use Rattle.std.specs.Prelude.{◌≡◌, ◌++◌, IfOk, OnOk, IsTrue, Some, option_map};
 ghost use Rattle.std.specs.Option.{option_to_list};
 ghost use Rattle.sc_history.specs.History.{join_all};
 ghost use Rattle.sc_history.specs.Installs.{AreInstalled, answer, bounds_after, installed, later, with_bounds};
@@ -123,6 +123,28 @@ pub(crate) fn installed_parts(
     push_installed(alloc, &mut new, split.here, tight)?;
     push_all(&mut new, split.after)?;
     Ok(new)
+}
+
+/// Whether two bounds are the same.
+fn is_same(a: &Bounds, b: &Bounds) -> bool
+    ensures { IsTrue result → a.now ≡ b.now }
+{
+    a == b
+}
+
+/// Whether an install leaves all bounds as they are: there is no such part, or its bounds are those already that the install
+/// leaves.
+pub(crate) fn leaves_bounds(old: &[KeptPart], tight: &Tight) -> bool
+    requires { AreInOrder old.now }
+    ensures { IsTrue result → AreInstalled tight.now.name tight.now.stamp tight.now.bounds old.now old.now }
+{
+    match split_at(old, tight.name()).here {
+        None => true,
+        Some(part) => {
+            let bounds = bounds_with(part.shelf(), tight.stamp(), &tight.bounds());
+            is_same(&bounds, &part.bounds())
+        }
+    }
 }
 
 /// What it answers.

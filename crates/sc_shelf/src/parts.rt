@@ -6,7 +6,7 @@ ghost use Rattle.sc_shelf.specs.Kept.{AreParts};
 ghost use Rattle.sc_shelf.specs.Ticket.{version_of};
 
 use crate::change::PartChange;
-use crate::install::{install_answer, installed_parts};
+use crate::install::{install_answer, installed_parts, leaves_bounds};
 use crate::kept::KeptPart;
 use crate::publish::{changed_parts, parts_without};
 use crate::split::split_at;
@@ -119,10 +119,15 @@ impl Parts {
         }
     }
 
-    /// The parts after an install of a hull: a new list beside this one, of pointers alone.
+    /// The parts after an install of a hull: a new list beside this one, of pointers alone, or the same list where no bounds
+    /// change.
     pub fn with_install(&self, alloc: Global, tight: &Tight) -> Result<Parts, AllocError>
         ensures { IfOk result (λ new. AreInstalled tight.now.name tight.now.stamp tight.now.bounds self.now new) }
     {
+        // Nothing is copied where no bounds change.
+        if leaves_bounds(self.as_slice(), tight) {
+            return self.share();
+        }
         let parts = installed_parts(alloc, self.as_slice(), tight)?;
         Ok(Parts {
             inner: Arc::new(alloc, parts)?,

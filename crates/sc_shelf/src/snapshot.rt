@@ -1,4 +1,4 @@
-ghost use Rattle.std.specs.Prelude.{◌≡◌, ◌+◌, ◌-◌, ◌^◌, ◌++◌, min, map, find, length, option_map, slice_get, IfOk, OnOk};
+ghost use Rattle.std.specs.Prelude.{◌≡◌, ◌+◌, ◌-◌, ◌^◌, ◌++◌, ◌≤◌, min, map, find, length, option_map, slice_get, IfOk, OnErr, OnOk};
 ghost use Rattle.std.specs.Arc.{arc_value};
 ghost use Rattle.sc_part.specs.Scan.{shared};
 ghost use Rattle.sc_history.specs.Content.{is_called, item_in};
@@ -122,7 +122,7 @@ impl Snapshot {
     }
 
     /// Pointers to all items, part by part in the order of names, and those of a part in the order of a scan. It counts as
-    /// one step for each part, and one more for each item.
+    /// one step for each part, and one more for each item. Where memory is wanting, at most so many are counted.
     pub fn items<L: Ledger>(
         &self,
         alloc: Global,
@@ -130,8 +130,9 @@ impl Snapshot {
     ) -> Result<Seq<Arc<Item>>, AllocError>
         ensures items { IfOk result (λ items. shared items ≡ all_items self.now.parts) }
         ensures steps { OnOk result (steps.new ≡ steps.old + length self.now.parts + length (all_items self.now.parts)) }
+        ensures most { OnErr result (steps.new ≤ steps.old + length self.now.parts + length (all_items self.now.parts)) }
     {
-        let mut all = Vec::new(alloc);
+        let mut all = Vec::with_capacity(alloc, self.item_count() as usize)?;
         for part in self.parts.as_slice() {
             push_items(&mut all, part.version().scan(steps))?;
         }

@@ -1,13 +1,20 @@
-use crate::{Collections, Cut, Installed, PartChange, PartName, Parts, Seq, Snapshot, Text};
+ghost use Rattle.std.specs.Prelude.{◌≡◌, ◌<◌};
+
+use crate::{Collections, Cut, Installed, PartChange, PartName, Parts, Seq, Snapshot, Steps, Text};
 use sc_item::read_line;
 use sc_json::Json;
 use sc_part::fits;
 use std::alloc::{AllocError, Global};
+use std::marker::Brand;
 use std::sync::Arc;
+use std::sync::ledger::{Blank, Ledger};
 use std::test::Fail;
 
-const SCENE: &[u8] =
+const WEST: &[u8] =
     b"{\"type\":\"Feature\",\"id\":\"a\",\"collection\":\"s2\",\"geometry\":{\"type\":\"Point\",\"coordinates\":[5,52]},\"properties\":{\"datetime\":\"2024-01-15T00:00:00Z\"}}";
+
+const EAST: &[u8] =
+    b"{\"type\":\"Feature\",\"id\":\"b\",\"collection\":\"s2\",\"geometry\":{\"type\":\"Point\",\"coordinates\":[9,52]},\"properties\":{\"datetime\":\"2024-01-25T00:00:00Z\"}}";
 
 /// The name of a year of the collection `s2`.
 fn year(alloc: Global, key: i32) -> Result<PartName, AllocError> {
@@ -18,9 +25,9 @@ fn year(alloc: Global, key: i32) -> Result<PartName, AllocError> {
     })
 }
 
-/// Parts with the scene alone, which came by the load of revision 2; none where it isn't read, or isn't of 2024.
-fn scenes_of_2024(alloc: Global) -> Result<Option<Parts>, AllocError> {
-    let Some(scene) = read_line(alloc, SCENE)? else {
+/// Parts with the scene of this line alone, which came by the load of revision 2; none where it isn't read, or isn't of 2024.
+fn scene_of_2024(alloc: Global, line: &[u8]) -> Result<Option<Parts>, AllocError> {
+    let Some(scene) = read_line(alloc, line)? else {
         return Ok(None);
     };
     let name = year(alloc, 2024)?;
@@ -33,9 +40,23 @@ fn scenes_of_2024(alloc: Global) -> Result<Option<Parts>, AllocError> {
     Ok(Some(Parts::new(alloc)?.with_changes(alloc, 2, &changes)?))
 }
 
+/// The number of the items that a snapshot hands out.
+fn items_of<L: Ledger>(
+    alloc: Global,
+    snapshot: &Snapshot,
+    blank: Blank,
+) -> Result<usize, AllocError>
+    requires name { blank.name ≡ L.name }
+    requires parts { blank.parts ≡ L.parts }
+    requires some { 0 < blank.parts }
+{
+    let mut steps = Steps::<L>::new(blank);
+    Ok(snapshot.items(alloc, &mut steps)?.as_slice().len())
+}
+
 #[test]
 fn a_part_is_found(rt: HostRuntime) -> Result<(), Fail> {
-    let parts = scenes_of_2024(rt.alloc())?.ok_or("no parts")?;
+    let parts = scene_of_2024(rt.alloc(), WEST)?.ok_or("no parts")?;
     let part = parts.find(&year(rt.alloc(), 2024)?).ok_or("no part")?;
     assert_eq!(rt; part.version().stamp(), 2);
     assert_eq!(rt; part.version().len(), 1);
@@ -45,37 +66,59 @@ fn a_part_is_found(rt: HostRuntime) -> Result<(), Fail> {
 
 #[test]
 fn an_item_is_found(rt: HostRuntime) -> Result<(), Fail> {
-    let parts = scenes_of_2024(rt.alloc())?.ok_or("no parts")?;
+    let parts = scene_of_2024(rt.alloc(), WEST)?.ok_or("no parts")?;
     let snapshot = Snapshot::of(2, Collections::new(rt.alloc())?, parts);
     let s2 = Text::from_str(rt.alloc(), "s2")?;
     let a = Text::from_str(rt.alloc(), "a")?;
     assert_eq!(rt; snapshot.find(&s2, &a).is_some(), true);
     assert_eq!(rt; snapshot.find(&a, &s2).is_none(), true);
+    Ok(())
+}
+
+#[test]
+fn all_are_handed_out(rt: HostRuntime) -> Result<(), Fail> {
+    let parts = scene_of_2024(rt.alloc(), WEST)?.ok_or("no parts")?;
+    let snapshot = Snapshot::of(2, Collections::new(rt.alloc())?, parts);
     assert_eq!(rt; snapshot.item_count(), 1);
+    assert_eq!(rt; items_of::<Brand>(rt.alloc(), &snapshot, Blank::new(1))?, 1);
+    assert_eq!(rt; snapshot.part(0).is_some(), true);
+    assert_eq!(rt; snapshot.part(1).is_none(), true);
     Ok(())
 }
 
 #[test]
 fn a_hull_is_installed(rt: HostRuntime) -> Result<(), Fail> {
-    let parts = scenes_of_2024(rt.alloc())?.ok_or("no parts")?;
-    let ticket = parts.look(&year(rt.alloc(), 2024)?)?.ok_or("no ticket")?;
-    let tight = ticket.tighten();
-    let installed = parts.with_install(rt.alloc(), &tight)?;
+    let name = year(rt.alloc(), 2024)?;
+    let parts = scene_of_2024(rt.alloc(), WEST)?.ok_or("no parts")?;
+    let others = scene_of_2024(rt.alloc(), EAST)?.ok_or("no other parts")?;
+    let tight = others.look(&name)?.ok_or("no ticket")?.tighten();
     assert_eq!(rt; parts.install_answer(&tight), Installed::Exact);
-    assert_eq!(rt; installed.len(), 1);
-    let place = tight.bounds().place().ok_or("no place")?;
-    assert_eq!(rt; place.west(), 50_000_000);
+    let installed = parts.with_install(rt.alloc(), &tight)?;
+    let bounds = installed.find(&name).ok_or("no part")?.bounds();
+    assert_eq!(rt; bounds.place().ok_or("no place")?.west(), 90_000_000);
     Ok(())
 }
 
 #[test]
 fn a_collection_goes(rt: HostRuntime) -> Result<(), Fail> {
     let s2 = Text::from_str(rt.alloc(), "s2")?;
-    let parts = scenes_of_2024(rt.alloc())?.ok_or("no parts")?;
+    let parts = scene_of_2024(rt.alloc(), WEST)?.ok_or("no parts")?;
     assert_eq!(rt; parts.without_collection(rt.alloc(), &s2)?.len(), 0);
     let none = Collections::new(rt.alloc())?;
     let one = none.with(rt.alloc(), &s2, Cut::Year, &Json::Null)?;
     assert_eq!(rt; one.find(&s2).is_some(), true);
     assert_eq!(rt; one.without(rt.alloc(), &s2)?.len(), 0);
+    Ok(())
+}
+
+#[test]
+fn a_collection_is_described(rt: HostRuntime) -> Result<(), Fail> {
+    let s2 = Text::from_str(rt.alloc(), "s2")?;
+    let none = Collections::new(rt.alloc())?;
+    let one = none.with(rt.alloc(), &s2, Cut::Year, &Json::Null)?;
+    let snapshot = Snapshot::of(1, one, Parts::new(rt.alloc())?);
+    assert_eq!(rt; snapshot.cut_of(&s2), Some(Cut::Year));
+    assert_eq!(rt; snapshot.collection(&s2).is_some(), true);
+    assert_eq!(rt; snapshot.collections(rt.alloc())?.as_slice().len(), 1);
     Ok(())
 }

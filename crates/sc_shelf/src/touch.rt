@@ -34,7 +34,8 @@ fn additions_with(
 ) -> Result<Vec<Addition>, AllocError>
     ensures { IfOk result (λ v. v.items ≡ take 64 (newest ∷ additions.now)) }
 {
-    let mut all = Vec::with_capacity(alloc, KEPT)?;
+    let room = additions.len().saturating_add(1).min(KEPT);
+    let mut all = Vec::with_capacity(alloc, room)?;
     all.push(newest)?;
     for addition in additions {
         if all.len() == KEPT {

@@ -3,7 +3,7 @@ use Rattle.sc_item.specs.Feature.{Feature}
 use Rattle.sc_part.specs.Scan.{shared}
 use Rattle.sc_shelf.specs.declared.change.PartChange.{PartChange}
 use Rattle.sc_shelf.proofs.Alone.{only_change}
-use Rattle.sc_shelf.proofs.tests.scenes_of_2024.Goals as goal
+use Rattle.sc_shelf.proofs.tests.scene_of_2024.Goals as goal
 
 pub with_changes-requires : goal.with_changes-requires
 with_changes-requires c =
