@@ -6,7 +6,6 @@ use Rattle.std.proofs.lemmas.List.{reverse-append}
 use Rattle.std.proofs.lemmas.List.Elements.{All-from_recursion}
 use Rattle.std.proofs.lemmas.List.Sums.{sum_by-cons}
 use Rattle.sqlite_keyed.proofs.ListLemmas.{all_weaker}
-use Rattle.sc_item.specs.Feature.{Feature}
 use Rattle.sc_load.specs.declared.load.Load.{Load}
 use Rattle.sc_load.specs.Load.{collection_of, size_of}
 use Rattle.sc_index.specs.declared.index.ItemIndex.{ItemIndex}
@@ -18,6 +17,7 @@ use Rattle.sc_history.specs.Taken.{Tells}
 use Rattle.sc_history.specs.Part.{Part}
 use Rattle.sc_history.proofs.Contents.{IsOwn, puts_own}
 use Rattle.sc_history.proofs.Lawful.{stand_after}
+use Rattle.sc_history.proofs.Moving.{bounds_move}
 use Rattle.sc_history.proofs.Telling.{one_telling, stand_nothing, told_next, told_nothing}
 use Rattle.sc_catalog.specs.declared.entry.Entry.{Entry}
 use Rattle.sc_catalog.specs.declared.entry.Published.{Published}
@@ -54,7 +54,7 @@ kept_nothing index none = record {
 
 -- ---- after a load
 
-loads_more : (entries : List Entry) (entry : Entry) → loads_of (entries ++ entry ∷ []) ≡ entry.load ∷ loads_of entries
+pub loads_more : (entries : List Entry) (entry : Entry) → loads_of (entries ++ entry ∷ []) ≡ entry.load ∷ loads_of entries
 loads_more entries entry = ap reverse (mapped entries) ∙ reverse-append (map (λ (e : Entry). e.load) entries) (entry.load ∷ [])
   where
     mapped : (l : List Entry) → map (λ (e : Entry). e.load) (l ++ entry ∷ []) ≡ map (λ (e : Entry). e.load) l ++ entry.load ∷ []
@@ -95,21 +95,21 @@ kept_next entries by load bytes collections parts old new next kept n ix =
           (reflects_next kept.past load (length entries + 1) bytes collections parts old new next kept.reflects n ix);
     }
 
-pub published_is : (past : List Change) (by : ℕ) (load : Load) (old : Holdings) (next : Next) (published : Published) → IsNext past load old.collections old.parts next → published.revision ≡ length old.entries + 1 → published.touched ≡ next.touched.items
+pub published_is : (past : List Change) (by : ℕ) (load : Load) (old : Holdings) (revision bytes : ℕ) (index : ItemIndex) (next : Next) (published : Published) → Reflects past revision bytes old.collections old.parts index → IsNext past load old.collections old.parts next → published.revision ≡ length old.entries + 1 → published.touched ≡ next.touched.items
     → IsPublished past by load old (record { entries = old.entries ++ record { by = by; load = load } ∷ []; collections = next.collections; parts = next.parts }) published
-published_is past by load old next published n r t = record {
+published_is past by load old revision bytes index next published reflects n r t = record {
   come = map arc_value next.come.items;
   accepted = n.accepted;
   entries_are = refl;
   collections_are = n.collections_are;
   parts_are = n.parts_are;
+  bounds_are = λ name. bounds_move past (change_of load (map arc_value next.come.items)) old.parts next.parts name reflects.is n.accepted.allowed reflects.stand n.parts_are;
   revision_is = r ∙ sym (length_more old.entries (record { by = by; load = load }));
   touched_are = t ∙ n.touched_are;
 }
 
 -- the items that come are of the load's collection
-pub next_own : (past : List Change) (load : Load) (collections : List Collection) (parts : List Part) (next : Next) (arrivals : List Feature) → IsNext past load collections parts next → arrivals ≡ map arc_value next.come.items
-    → All (λ item. item.collection ≡ collection_of load) arrivals
-next_own past load collections parts next arrivals n e =
-    subst (All (λ item. item.collection ≡ collection_of load)) (sym e) (All-from_recursion (λ item. item.collection ≡ collection_of load) _ (all_weaker (IsOwn (collection_of load)) (λ item. item.collection ≡ collection_of load) (λ item own. own.0) (map arc_value next.come.items)
-    (puts_own (replay past).items load (map arc_value next.come.items) n.accepted.allowed.formed n.accepted.allowed.puts)))
+pub next_own : (past : List Change) (load : Load) (collections : List Collection) (parts : List Part) (next : Next) → IsNext past load collections parts next → All (λ item. item.collection ≡ collection_of load) (map arc_value next.come.items)
+next_own past load collections parts next n =
+    All-from_recursion (λ item. item.collection ≡ collection_of load) _ (all_weaker (IsOwn (collection_of load)) (λ item. item.collection ≡ collection_of load) (λ item own. own.0) (map arc_value next.come.items)
+    (puts_own (replay past).items load (map arc_value next.come.items) n.accepted.allowed.formed n.accepted.allowed.puts))

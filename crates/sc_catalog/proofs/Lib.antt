@@ -9,4 +9,5 @@ pub mod Overfull
 pub mod Patching
 pub mod Preparing
 pub mod Committing
+pub mod Hulls
 pub mod Views

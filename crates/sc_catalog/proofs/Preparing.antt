@@ -227,6 +227,26 @@ cut_at past revision collections parts index load come made cut id items r e n c
   indexes = r.indexes;
 }
 
+-- the collection of a load of items is there, since else the load is refused
+made_either : (made : Bool) (other : Option LoadFault) → or_else (unless made NoCollection) other ≡ None → made ≡ true
+made_either true other e = refl
+made_either false other e = never true refl (ap is_some e)
+
+made_of_items : (content : Content) (load : Load) → is_of_items load ≡ true → plain_fault content load ≡ None → is_made content.collections (collection_of load) ≡ true
+made_of_items content (AddCollection id cut tree) items none = never false items refl
+made_of_items content (DropCollection id) items none = never false items refl
+made_of_items content (Insert collection new) items none = made_either (is_made content.collections collection) _ none
+made_of_items content (Upsert collection new) items none = made_either (is_made content.collections collection) _ none
+made_of_items content (Replace collection item) items none = made_either (is_made content.collections collection) _ none
+made_of_items content (Patch collection id patch) items none = made_either (is_made content.collections collection) _ none
+made_of_items content (Delete collection id) items none = made_either (is_made content.collections collection) _ none
+
+pub collection_there : {R : Type 0} (past : List Change) (revision : ℕ) (collections : List Collection) (parts : List Part) (index : ItemIndex) (load : Load) (come : List Feature) (id : List ℕ) → is_of_items load ≡ true
+    → IsReadyAt past revision collections parts index (change_of load come) → None ≡ find (is_called id) collections → id ≡ collection_of load → R
+collection_there past revision collections parts index load come id items r none named =
+    never (is_made (replay past).collections (collection_of load)) (made_of_items (replay past) load items r.allowed.no_fault)
+    (sym (made_is (λ (c : Collection). c) None false id (collection_of load) collections (replay past).collections refl none named r.collections_are))
+
 -- ---- loads of collections
 
 pub add_after : (past : List Change) (revision : ℕ) (collections : List Collection) (parts : List Part) (index : ItemIndex) (load : Load) (come : List Feature) (id : List ℕ) (cut : Cut) (tree : Json) (after : PartsAfter) → load ≡ AddCollection id cut tree

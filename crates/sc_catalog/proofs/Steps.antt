@@ -19,7 +19,7 @@ use Rattle.sc_load.specs.Load.{IsItemOf}
 use Rattle.sc_history.specs.Content.{is_item, item_in}
 use Rattle.sc_history.specs.Changes.{is_among}
 use Rattle.sc_history.specs.Names.{fits}
-use Rattle.sc_history.proofs.Texts.{same_text}
+use Rattle.sc_history.proofs.Texts.{never, same_text}
 use Rattle.sc_history.proofs.Contents.{find_some}
 use Rattle.sc_history.proofs.Lawful.{fits_test}
 use Rattle.sc_catalog.specs.declared.groups.Group.{Group}
@@ -43,6 +43,10 @@ there_too groups key k e = go (is_eq (int_cmp key k)) refl
     go : (b : Bool) → is_eq (int_cmp key k) ≡ b → is_some (get int_cmp groups k) ≡ (b || is_some (get int_cmp groups k))
     go false is = refl
     go true is = let same : k ≡ key = (Decides-int_eq k key).0 (key_test k key ∙ is) in ap (λ q. is_some (get int_cmp groups q)) same ∙ e
+
+-- and a group that was made is there
+pub made_there : {R : Type 0} (old new : Option Group) (key : ℤ) → is_some new ≡ (is_eq (int_cmp key key) || is_some old) → None ≡ new → R
+made_there old new key e none = never (is_some new) (e ∙ ap (λ b. b || is_some old) (sym (key_test key key) ∙ (Decides-int_eq key key).1 refl)) (ap is_some (sym none))
 
 filter_pushed : {X : Type 0} (p : X → Bool) (xs : List X) (x : X) → filter p (xs ++ x ∷ []) ≡ filter p xs ++ cond (p x) (x ∷ []) []
 filter_pushed p [] x = refl

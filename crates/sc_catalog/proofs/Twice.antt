@@ -1,9 +1,12 @@
 -- Ids that stand a second time, found from the front of a list.
 use Rattle.std.proofs.Common.{◌≡◌, ◌≤◌, ◌<◌, ◌+◌, ℕ, Bool, true, false, not, cond, ◌||◌, List, [], ◌∷◌, ◌++◌, length, map, take, drop, reverse, get_or, Option, Some, None, refl, sym, ap, ◌∙◌, bytes_eq}
 use Rattle.std.specs.Arc.{arc_value}
+use Rattle.std.specs.Ordering.{is_eq}
+use Rattle.std.specs.Cmp.Lexicographic.{texts_ties}
 use Rattle.std.specs.declared.alloc.Global.{Global}
 use Rattle.std.specs.declared.sync.Arc.{Arc}
 use Rattle.std.proofs.lemmas.List.{take_more, at_drop_more, drop_all, reverse-append}
+use Rattle.sc_base.specs.Text.{text_order}
 use Rattle.sc_item.specs.Feature.{Feature}
 use Rattle.sc_history.specs.Changes.{ids_of, is_among}
 use Rattle.sc_history.specs.Refusals.{first_twice}
@@ -32,11 +35,11 @@ either false c = refl
 
 -- one more is seen
 pub seen_more : {K : Type 0} (now : K → List ℕ) (items : List (Arc Feature Global)) (at : ℕ) (item : Arc Feature Global) (old new : K → Bool) (key : List ℕ) → at < length items → item ≡ get_or items at item
-    → key ≡ (arc_value item).id → ((q : K) → old q ≡ is_among (reverse (own_ids (take at items))) (now q)) → ((q : K) → new q ≡ cond (bytes_eq key (now q)) true (old q))
+    → key ≡ (arc_value item).id → ((q : K) → old q ≡ is_among (reverse (own_ids (take at items))) (now q)) → ((q : K) → new q ≡ cond (is_eq (text_order key (now q))) true (old q))
     → (q : K) → new q ≡ is_among (reverse (own_ids (take (at + 1) items))) (now q)
 seen_more now items at item old new key lt is same was put q =
-    put q ∙ (either (bytes_eq key (now q)) (old q) ∙ (ap (λ k. bytes_eq k (now q) || old q) same ∙ (ap (λ b. bytes_eq (arc_value item).id (now q) || b) (was q)
-    ∙ ap (λ ids. is_among ids (now q)) (sym (behind_more items at item lt is)))))
+    put q ∙ (ap (λ b. cond b true (old q)) (sym (texts_ties key (now q))) ∙ (either (bytes_eq key (now q)) (old q) ∙ (ap (λ k. bytes_eq k (now q) || old q) same ∙ (ap (λ b. bytes_eq (arc_value item).id (now q) || b) (was q)
+    ∙ ap (λ ids. is_among ids (now q)) (sym (behind_more items at item lt is))))))
 
 one_twice : (before ids : List (List ℕ)) (id : List ℕ) → is_among before id ≡ true → first_twice before (id ∷ ids) ≡ Some id
 unfolding first_twice

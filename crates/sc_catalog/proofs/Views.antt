@@ -10,12 +10,13 @@ use Rattle.sc_history.specs.Changes.{Change}
 use Rattle.sc_history.specs.Names.{is_name}
 use Rattle.sc_history.specs.History.{replay}
 use Rattle.sc_history.specs.Taken.{Tells}
-use Rattle.sc_history.specs.Part.{Part, lookup}
+use Rattle.sc_history.specs.Part.{Part, bounds_of, lookup}
 use Rattle.sc_history.specs.Sound.{Stands}
-use Rattle.sc_history.specs.Installs.{AreInstalled, installed}
+use Rattle.sc_history.specs.Installs.{AreInstalled, answer, answer_in, bounds_in, installed}
 use Rattle.sc_history.specs.Views.{IsSnapshot, IsTight}
 use Rattle.sc_history.proofs.Names.{same_name}
 use Rattle.sc_history.proofs.Installing.{stand_installed, stands_installed}
+use Rattle.sc_history.proofs.Moving.{answer_is, bounds_installed}
 use Rattle.sc_history.proofs.Taking.{snapshot_taken, ticket_taken}
 use Rattle.sc_history.proofs.Telling.{one_telling}
 use Rattle.sc_shelf.specs.Ticket.{version_of}
@@ -44,6 +45,15 @@ module _ (entries : List Entry) (bytes : ℕ) (collections : List Collection) (p
 
   pub look_stands : (name : PartName) (past : List Change) → Tells (loads_of entries) past → AnswersLook past name (option_map version_of (lookup name parts))
   look_stands name past told = subst (λ p. AnswersLook p name (option_map version_of (lookup name parts))) (one_past past told) (look_of name (lookup name parts) (kept.reflects.stand.each name))
+
+  -- what an install answers and leaves, by the history alone
+  pub answer_told : (name : PartName) (stamp : ℕ) (past : List Change) → Tells (loads_of entries) past → answer stamp (lookup name parts) ≡ answer_in past name stamp
+  answer_told name stamp past told = subst (λ p. answer stamp (lookup name parts) ≡ answer_in p name stamp) (one_past past told) (answer_is kept.past parts name stamp kept.reflects.stand)
+
+  pub bounds_told : (name : PartName) (stamp : ℕ) (hull : Extent) (new : List Part) → AreInstalled name stamp hull parts new → (past : List Change) → Tells (loads_of entries) past
+      → bounds_of name new ≡ option_map (bounds_in past name stamp hull) (bounds_of name parts)
+  bounds_told name stamp hull new are past told =
+      subst (λ p. bounds_of name new ≡ option_map (bounds_in p name stamp hull) (bounds_of name parts)) (one_past past told) (bounds_installed kept.past name stamp hull parts new kept.reflects.stand are)
 
   module _ (name : PartName) (stamp : ℕ) (hull : Extent) (tight : (past : List Change) → Tells (loads_of entries) past → IsTight past name stamp hull) (new : List Part) (are : AreInstalled name stamp hull parts new) where
     tight_now : IsTight kept.past name stamp hull

@@ -5,7 +5,9 @@ ghost use Rattle.sc_history.specs.Part.{lookup};
 ghost use Rattle.sc_history.specs.Refusals.{IsRefused};
 ghost use Rattle.sc_history.specs.Sound.{Sound};
 ghost use Rattle.sc_history.specs.Taken.{Tells};
+ghost use Rattle.sc_shelf.specs.Ticket.{Hull};
 ghost use Rattle.sc_catalog.specs.Holdings.{IsPublished, loads_of};
+ghost use Rattle.sc_catalog.specs.Views.{IsTightIn};
 
 mod views;
 
@@ -61,7 +63,7 @@ impl Catalogue {
         })
     }
 
-    /// The number of loads that the catalogue took.
+    /// The number of loads that the catalogue took. The clause `sound` is what every catalogue keeps.
     pub fn revision(&self) -> u64
         ensures revision { result ≡ length self.now.entries }
         ensures sound { Sound (loads_of self.now.entries) self.now.collections self.now.parts }
@@ -79,13 +81,16 @@ impl Catalogue {
         }
     }
 
-    /// Takes a load of the publisher with the number `by`, or refuses it with the first fault that holds. All memory is taken
-    /// before the first change, and a refusal leaves the catalogue as it was, also where memory is wanting.
+    /// Takes a load of the publisher with the number `by`, or refuses it with the first fault that holds, in the order of
+    /// `LoadFault`. The load is well-formed, as what the `prepare_` calls give is. It tells the revision, and the parts that
+    /// the load touched and left. All memory is taken before the first change, and a refusal leaves the catalogue as it was,
+    /// also where memory is wanting. Hulls of tickets that could be installed still can.
     pub fn publish(&mut self, alloc: Global, by: u32, load: Load) -> Result<Published, LoadFault>
         requires { IsWellFormed load }
         ensures ok { IfOk result (λ published. (past : List Change) → Tells (loads_of self.old.entries) past → IsPublished past by load self.old self.new published) }
         ensures fault { IfErr result (λ fault. (past : List Change) → Tells (loads_of self.old.entries) past → IsRefused past load fault) }
         ensures err { OnErr result (self.new ≡ self.old) }
+        ensures hulls { (hull : Hull) → IsTightIn self.old hull → IsTightIn self.new hull }
     {
         let revision = self.history.len() as u64 + 1;
         let next = prepare(
@@ -97,12 +102,14 @@ impl Catalogue {
             &self.index,
             &load,
         )?;
-        let arrivals = self.index.reserve(alloc, load.collection(), &next.come)?;
         self.history.reserve(1)?;
-        index_load(&mut self.index, &load, arrivals);
+        // The last to take memory, since it gives its room back where that is wanting.
+        self.index.reserve(alloc, load.collection(), &next.come)?;
+        index_load(&mut self.index, &load, next.come);
         self.bytes = next.bytes;
         self.collections = next.collections;
         self.parts = next.parts;
+        // Room was made above, so this isn't refused.
         self.history.push(Entry { by, load })?;
         Ok(Published {
             revision,

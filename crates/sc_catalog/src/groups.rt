@@ -62,7 +62,8 @@ fn add_arrival(
     let item = Arc::try_clone(item)?;
     match groups.get_mut(&key) {
         Some(group) => Ok(group.come.push(item)?),
-        None => Err(AllocError),
+        // There is a group of the key now.
+        None => unreachable!(),
     }
 }
 
@@ -81,7 +82,8 @@ fn add_departure(
     let id = id.try_clone(alloc)?;
     match groups.get_mut(&key) {
         Some(group) => Ok(group.gone.push(id)?),
-        None => Err(AllocError),
+        // There is a group of the key now.
+        None => unreachable!(),
     }
 }
 

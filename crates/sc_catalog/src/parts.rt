@@ -82,8 +82,8 @@ fn changed_parts(
             let after = cut_parts(alloc, revision, collection.cut(), parts, index, load, come)?;
             Ok(after)
         }
-        // The collection of such a load is there, so this isn't reached.
-        None => Err(AllocError),
+        // A load of items is refused before where its collection isn't there.
+        None => unreachable!(),
     }
 }
 

@@ -15,7 +15,7 @@ use sc_index::ItemIndex;
 use sc_item::Item;
 use sc_load::{Load, LoadFault};
 use std::alloc::{AllocError, Global};
-use std::collections::HashSet;
+use std::collections::BTreeSet;
 use std::sync::Arc;
 
 /// Whether the collection has an item with the id.
@@ -45,7 +45,7 @@ fn first_there<'a>(
 fn first_twice<'a>(alloc: Global, items: &'a [Arc<Item>]) -> Result<Option<&'a Text>, AllocError>
     ensures { IfOk result (λ id. option_map (λ id. id.now) id ≡ first_twice [] (ids_of (map arc_value items.now))) }
 {
-    let mut seen = HashSet::with_capacity(alloc, items.len())?;
+    let mut seen = BTreeSet::new(alloc);
     for item in items {
         if !seen.insert(item.id().as_str())? {
             return Ok(Some(item.id()));

@@ -1,13 +1,13 @@
 //! What is taken out of a catalogue and outlives its changes, and hulls that come back to it.
-ghost use Rattle.std.specs.Prelude.{◌≡◌, List, length, option_map, IfOk, OnErr, OnOk};
+ghost use Rattle.std.specs.Prelude.{◌≡◌, List, length, option_map, IfOk, IfSome, OnErr, OnOk};
 ghost use Rattle.sc_history.specs.Changes.{Change};
-ghost use Rattle.sc_history.specs.Installs.{answer};
+ghost use Rattle.sc_history.specs.Installs.{answer, answer_in};
 ghost use Rattle.sc_history.specs.Part.{lookup};
 ghost use Rattle.sc_history.specs.Taken.{Tells};
-ghost use Rattle.sc_history.specs.Views.{IsSnapshot, IsTight};
-ghost use Rattle.sc_shelf.specs.Ticket.{version_of};
+ghost use Rattle.sc_history.specs.Views.{IsSnapshot};
+ghost use Rattle.sc_shelf.specs.Ticket.{Hull, hull_at, version_of};
 ghost use Rattle.sc_catalog.specs.Holdings.{loads_of};
-ghost use Rattle.sc_catalog.specs.Views.{AnswersLook, IsInstalled};
+ghost use Rattle.sc_catalog.specs.Views.{AnswersLook, IsInstalled, IsTightIn};
 
 use crate::catalogue::Catalogue;
 use sc_cut::PartName;
@@ -34,18 +34,21 @@ impl Catalogue {
     pub fn look(&self, name: &PartName) -> Result<Option<Ticket>, AllocError>
         ensures taken { IfOk result (λ ticket. ticket ≡ option_map version_of (lookup name.now self.now.parts)) }
         ensures stands { IfOk result (λ ticket. (past : List Change) → Tells (loads_of self.now.entries) past → AnswersLook past name.now ticket) }
+        ensures hull { IfOk result (λ ticket. IfSome ticket (λ ticket. IsTightIn self.now (hull_at ticket))) }
     {
         self.parts.look(name)
     }
 
     /// Installs the hull of a ticket that was taken of this catalogue, now or earlier. The part's bounds become the hull, or
     /// what lies within the hull and the additions since, or they stay, as the answer tells; nothing else changes, and no
-    /// bounds become wider. Want of memory leaves the catalogue as it was.
+    /// bounds become wider. Want of memory leaves the catalogue as it was. Hulls that could be installed still can.
     pub fn install(&mut self, alloc: Global, tight: &Tight) -> Result<Installed, AllocError>
-        requires { (past : List Change) → Tells (loads_of self.old.entries) past → IsTight past tight.now.name tight.now.stamp tight.now.bounds }
+        requires { IsTightIn self.old tight.now }
         ensures answer { IfOk result (λ told. told ≡ answer tight.now.stamp (lookup tight.now.name self.old.parts)) }
+        ensures told { IfOk result (λ told. (past : List Change) → Tells (loads_of self.old.entries) past → told ≡ answer_in past tight.now.name tight.now.stamp) }
         ensures ok { OnOk result (IsInstalled tight.now self.old self.new) }
         ensures err { OnErr result (self.new ≡ self.old) }
+        ensures hulls { (hull : Hull) → IsTightIn self.old hull → IsTightIn self.new hull }
     {
         let answer = self.parts.install_answer(tight);
         self.parts = self.parts.with_install(alloc, tight)?;
