@@ -89,7 +89,7 @@ fn measure(rt: &HostRuntime, bytes: &[u8]) -> anyhow::Result<Measured> {
 fn measure_snapshots(rt: &HostRuntime, catalogue: &Catalogue) -> anyhow::Result<u128> {
     let start = Instant::now(rt)?;
     for _ in 0..SNAPSHOTS {
-        let _snapshot: Snapshot = catalogue.snapshot()?;
+        let _snapshot: Snapshot = catalogue.snapshot(rt.alloc())?;
     }
     Ok(start.elapsed(rt)?.as_nanos())
 }
@@ -103,7 +103,7 @@ fn main(rt: HostRuntime) -> anyhow::Result<()> {
     }
     let measured = measure(&rt, bytes.as_slice())?;
     let snapshots = measure_snapshots(&rt, &measured.catalogue)?;
-    let parts = measured.catalogue.snapshot()?.part_count();
+    let parts = measured.catalogue.snapshot(rt.alloc())?.part_count();
     let Measured {
         catalogue: _,
         items,

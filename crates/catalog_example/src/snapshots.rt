@@ -36,10 +36,10 @@ fn with_wide_bounds(rt: &HostRuntime) -> anyhow::Result<Teller> {
 pub fn stay(rt: &HostRuntime) -> anyhow::Result<()> {
     println!(rt; "An older snapshot")?;
     let mut teller = with_wide_bounds(rt)?;
-    let older = teller.snapshot()?;
+    let older = teller.snapshot(rt.alloc())?;
     teller.tighten(rt.alloc(), &month(rt.alloc(), 24_288)?)?;
     insert(rt, &mut teller, "c", "2024-01-25T00:00:00Z", 2)?;
     teller.install(rt)?;
     tell_items(rt, &older)?;
-    tell_items(rt, &teller.snapshot()?)
+    tell_items(rt, &teller.snapshot(rt.alloc())?)
 }

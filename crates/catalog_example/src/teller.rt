@@ -19,7 +19,7 @@ impl Model for Teller {
     ghost use Rattle.std.specs.Prelude.{IfSome};
     ghost use Rattle.sc_json.specs.contracts.tree.Json as e;
     ghost use Rattle.sc_catalog.specs.Holdings.{Holdings};
-    ghost use Rattle.sc_catalog.specs.Views.{IsTightIn};
+    ghost use Rattle.sc_catalog.specs.Entries.{IsTightOf};
 
     ghost Value = { Holdings };
 
@@ -27,7 +27,7 @@ impl Model for Teller {
 
     ghost view = { λ t. t.catalogue };
 
-    ghost invariant = { λ t. IfSome t.hull (IsTightIn t.catalogue) };
+    ghost invariant = { λ t. IfSome t.hull (IsTightOf t.catalogue.entries) };
 }
 
 /// The bounds of a part; none where it isn't there.
@@ -91,7 +91,7 @@ impl Teller {
     /// Looks at a part, and prints the ticket's stamp; none where there is no such part.
     pub fn look(&self, rt: &HostRuntime, name: &PartName) -> anyhow::Result<()> {
         let text = name_text(rt.alloc(), name)?;
-        match self.catalogue.look(name)? {
+        match self.catalogue.look(rt.alloc(), name)? {
             Some(ticket) => {
                 let stamp = ticket.stamp();
                 println!(rt; "  look at {text}: stamp {stamp}")?;
@@ -103,7 +103,7 @@ impl Teller {
 
     /// Looks at a part and keeps the hull of the ticket.
     pub fn tighten(&mut self, alloc: Global, name: &PartName) -> anyhow::Result<()> {
-        match self.catalogue.look(name)? {
+        match self.catalogue.look(alloc, name)? {
             Some(ticket) => {
                 self.hull = Some(ticket.tighten());
                 Ok(())
@@ -125,12 +125,12 @@ impl Teller {
     }
 
     /// The catalogue as it is.
-    pub fn snapshot(&self) -> Result<Snapshot, AllocError> {
-        self.catalogue.snapshot()
+    pub fn snapshot(&self, alloc: Global) -> Result<Snapshot, AllocError> {
+        self.catalogue.snapshot(alloc)
     }
 
     /// Prints the catalogue as it is.
     pub fn tell_all(&self, rt: &HostRuntime) -> anyhow::Result<()> {
-        tell_snapshot(rt, &self.snapshot()?)
+        tell_snapshot(rt, &self.snapshot(rt.alloc())?)
     }
 }

@@ -1,5 +1,5 @@
 ghost use Rattle.std.specs.Prelude.{◌≡◌, ◌++◌, ◌↔◌, ◌<◌, ◌==◌, length, IsUtf8, IfOk, IfSome, IfNone, OnOk, OnErr, IsTrue, string_bytes, MatchOption, Some, None};
-ghost use Rattle.sc_base.specs.Text.{text_order, text_of};
+ghost use Rattle.sc_base.specs.Text.{text_order, text_of, front_within};
 
 use std::alloc::{AllocError, Global};
 use std::cmp::Ordering;
@@ -98,6 +98,14 @@ impl Text {
         ensures { IsTrue result ↔ (length self.now ≡ 0) }
     {
         self.inner.is_empty()
+    }
+
+    /// The longest front of whole characters that has at most so many bytes.
+    pub fn front_within(&self, most: usize) -> &str
+        ensures { result.now ≡ front_within most self.now }
+    {
+        let text = self.as_str();
+        &text[..text.floor_char_boundary(most)]
     }
 
     /// A copy of the text.

@@ -15,20 +15,18 @@ use Rattle.sc_history.specs.Changes.{Change, apply, collections_after}
 use Rattle.sc_history.specs.History.{replay}
 use Rattle.sc_history.specs.Taken.{Tells}
 use Rattle.sc_history.specs.Part.{Part}
+use Rattle.sc_history.specs.Touch.{AreTouched}
 use Rattle.sc_history.proofs.Contents.{IsOwn, puts_own}
+use Rattle.sc_history.proofs.Covering.{are_touched}
 use Rattle.sc_history.proofs.Lawful.{stand_after}
 use Rattle.sc_history.proofs.Moving.{bounds_move}
-use Rattle.sc_history.proofs.Telling.{one_telling, stand_nothing, told_next, told_nothing}
+use Rattle.sc_history.proofs.Telling.{stand_nothing, told_next, told_nothing}
 use Rattle.sc_catalog.specs.declared.entry.Entry.{Entry}
 use Rattle.sc_catalog.specs.declared.entry.Published.{Published}
 use Rattle.sc_catalog.specs.declared.next.Next.{Next}
-use Rattle.sc_catalog.specs.Holdings.{Holdings, IsPublished, loads_of}
-use Rattle.sc_catalog.specs.Kept.{IsKept, IsNext, Reflects, change_of}
-
--- the fields are those of the one history that the entries tell
-pub reflects_at : (entries : List Entry) (bytes : ℕ) (collections : List Collection) (parts : List Part) (index : ItemIndex) → IsKept entries bytes collections parts index → (past : List Change) → Tells (loads_of entries) past
-    → Reflects past (length entries + 1) bytes collections parts index
-reflects_at entries bytes collections parts index kept past told = subst (λ p. Reflects p (length entries + 1) bytes collections parts index) (one_telling (loads_of entries) kept.past past kept.told told) kept.reflects
+use Rattle.sc_catalog.specs.Entries.{TellsOf, change_of, loads_of}
+use Rattle.sc_catalog.specs.Holdings.{Holdings, IsPublished}
+use Rattle.sc_catalog.specs.Kept.{IsKept, IsNext, Reflects}
 
 nothing_replayed : replay [] ≡ nothing
 unfolding replay
@@ -95,17 +93,16 @@ kept_next entries by load bytes collections parts old new next kept n ix =
           (reflects_next kept.past load (length entries + 1) bytes collections parts old new next kept.reflects n ix);
     }
 
-pub published_is : (past : List Change) (by : ℕ) (load : Load) (old : Holdings) (revision bytes : ℕ) (index : ItemIndex) (next : Next) (published : Published) → Reflects past revision bytes old.collections old.parts index → IsNext past load old.collections old.parts next → published.revision ≡ length old.entries + 1 → published.touched ≡ next.touched.items
-    → IsPublished past by load old (record { entries = old.entries ++ record { by = by; load = load } ∷ []; collections = next.collections; parts = next.parts }) published
-published_is past by load old revision bytes index next published reflects n r t = record {
-  come = map arc_value next.come.items;
-  accepted = n.accepted;
+pub published_is : (past : List Change) (by : ℕ) (load : Load) (old : Holdings) (revision bytes : ℕ) (index : ItemIndex) (next : Next) (published : Published) → TellsOf old.entries past → Reflects past revision bytes old.collections old.parts index → IsNext past load old.collections old.parts next → published.revision ≡ length old.entries + 1 → published.touched ≡ next.touched.items
+    → IsPublished by load old (record { entries = old.entries ++ record { by = by; load = load } ∷ []; collections = next.collections; parts = next.parts }) published
+published_is past by load old revision bytes index next published told reflects n r t = record {
+  takes = record { past = past; told = told; come = map arc_value next.come.items; accepted = n.accepted };
   entries_are = refl;
   collections_are = n.collections_are;
   parts_are = n.parts_are;
   bounds_are = λ name. bounds_move past (change_of load (map arc_value next.come.items)) old.parts next.parts name reflects.is n.accepted.allowed reflects.stand n.parts_are;
   revision_is = r ∙ sym (length_more old.entries (record { by = by; load = load }));
-  touched_are = t ∙ n.touched_are;
+  touched_are = subst (AreTouched past (change_of load (map arc_value next.come.items))) (sym (t ∙ n.touched_are)) (are_touched past (change_of load (map arc_value next.come.items)) old.parts next.parts reflects.is n.accepted.allowed reflects.stand n.parts_are);
 }
 
 -- the items that come are of the load's collection

@@ -11,3 +11,4 @@ pub mod Preparing
 pub mod Committing
 pub mod Hulls
 pub mod Views
+pub mod Crossing

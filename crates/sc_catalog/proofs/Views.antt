@@ -1,5 +1,5 @@
 -- What is taken of a catalogue stands, and an install keeps it.
-use Rattle.std.proofs.Common.{◌≡◌, ℕ, Bool, true, false, cond, List, length, Option, Some, None, refl, sym, subst, arith}
+use Rattle.std.proofs.Common.{◌≡◌, ℕ, Bool, true, false, cond, List, length, Option, Some, None, refl, sym, ◌∙◌, subst, arith}
 use Rattle.std.specs.Option.{option_map}
 use Rattle.sc_bounds.specs.Extent.{Extent}
 use Rattle.sc_bounds.proofs.Extents.{within_itself}
@@ -9,53 +9,58 @@ use Rattle.sc_history.specs.Content.{Collection}
 use Rattle.sc_history.specs.Changes.{Change}
 use Rattle.sc_history.specs.Names.{is_name}
 use Rattle.sc_history.specs.History.{replay}
-use Rattle.sc_history.specs.Taken.{Tells}
 use Rattle.sc_history.specs.Part.{Part, bounds_of, lookup}
 use Rattle.sc_history.specs.Sound.{Stands}
 use Rattle.sc_history.specs.Installs.{AreInstalled, answer, answer_in, bounds_in, installed}
-use Rattle.sc_history.specs.Views.{IsSnapshot, IsTight}
+use Rattle.sc_history.specs.declared.installed.Installed.{Installed}
+use Rattle.sc_history.specs.Views.{IsSnapshot, IsTight, Snap}
+use Rattle.sc_part.specs.Version.{Version}
 use Rattle.sc_history.proofs.Names.{same_name}
 use Rattle.sc_history.proofs.Installing.{stand_installed, stands_installed}
 use Rattle.sc_history.proofs.Moving.{answer_is, bounds_installed}
 use Rattle.sc_history.proofs.Taking.{snapshot_taken, ticket_taken}
 use Rattle.sc_history.proofs.Telling.{one_telling}
-use Rattle.sc_shelf.specs.Ticket.{version_of}
+use Rattle.sc_shelf.specs.Ticket.{Hull, version_of}
 use Rattle.sc_catalog.specs.declared.entry.Entry.{Entry}
-use Rattle.sc_catalog.specs.Holdings.{loads_of}
+use Rattle.sc_catalog.specs.Entries.{AnswersLook, IsInstallOf, IsLookOf, IsSnapshotOf, TellsOf, loads_of}
 use Rattle.sc_catalog.specs.Kept.{IsKept}
-use Rattle.sc_catalog.specs.Views.{AnswersLook, IsNoWider}
+use Rattle.sc_catalog.specs.Views.{IsNoWider}
 
 module _ (entries : List Entry) (bytes : ℕ) (collections : List Collection) (parts : List Part) (index : ItemIndex) (kept : IsKept entries bytes collections parts index) where
-  one_past : (past : List Change) → Tells (loads_of entries) past → kept.past ≡ past
+  one_past : (past : List Change) → TellsOf entries past → kept.past ≡ past
   one_past past told = one_telling (loads_of entries) kept.past past kept.told told
 
   revision_is : length kept.past ≡ length entries
   revision_is = omega (arith, kept.reflects.revision_is)
 
-  pub snapshot_stands : (past : List Change) → Tells (loads_of entries) past → IsSnapshot past (record { revision = length entries; collections = collections; parts = parts })
-  snapshot_stands past told =
+  pub snapshot_stands : IsSnapshotOf entries (record { revision = length entries; collections = collections; parts = parts })
+  snapshot_stands =
       let taken = snapshot_taken kept.past parts kept.reflects.stand in
       let counted = subst (λ r. IsSnapshot kept.past (record { revision = r; collections = (replay kept.past).collections; parts = parts })) revision_is taken in
-      subst (λ p. IsSnapshot p (record { revision = length entries; collections = collections; parts = parts })) (one_past past told)
-      (subst (λ l. IsSnapshot kept.past (record { revision = length entries; collections = l; parts = parts })) (sym kept.reflects.collections_are) counted)
+      record {
+        past = kept.past;
+        told = kept.told;
+        is = subst (λ l. IsSnapshot kept.past (record { revision = length entries; collections = l; parts = parts })) (sym kept.reflects.collections_are) counted;
+        revision_is = refl;
+      }
 
   look_of : (name : PartName) (part : Option Part) → Stands kept.past name part → AnswersLook kept.past name (option_map version_of part)
   look_of name None is = is
   look_of name (Some part) is = record { name_is = is.name_is; stamp_is = is.stamp_is; is = ticket_taken kept.past name part kept.reflects.is is }
 
-  pub look_stands : (name : PartName) (past : List Change) → Tells (loads_of entries) past → AnswersLook past name (option_map version_of (lookup name parts))
-  look_stands name past told = subst (λ p. AnswersLook p name (option_map version_of (lookup name parts))) (one_past past told) (look_of name (lookup name parts) (kept.reflects.stand.each name))
+  pub look_stands : (name : PartName) (ticket : Option Version) → ticket ≡ option_map version_of (lookup name parts) → IsLookOf entries name ticket
+  look_stands name ticket e = record { past = kept.past; told = kept.told; answers = subst (AnswersLook kept.past name) (sym e) (look_of name (lookup name parts) (kept.reflects.stand.each name)) }
 
   -- what an install answers and leaves, by the history alone
-  pub answer_told : (name : PartName) (stamp : ℕ) (past : List Change) → Tells (loads_of entries) past → answer stamp (lookup name parts) ≡ answer_in past name stamp
-  answer_told name stamp past told = subst (λ p. answer stamp (lookup name parts) ≡ answer_in p name stamp) (one_past past told) (answer_is kept.past parts name stamp kept.reflects.stand)
+  pub answer_told : (hull : Hull) (told : Installed) → told ≡ answer hull.stamp (lookup hull.name parts) → IsInstallOf entries hull told
+  answer_told hull told e = record { past = kept.past; tells = kept.told; is = e ∙ answer_is kept.past parts hull.name hull.stamp kept.reflects.stand }
 
-  pub bounds_told : (name : PartName) (stamp : ℕ) (hull : Extent) (new : List Part) → AreInstalled name stamp hull parts new → (past : List Change) → Tells (loads_of entries) past
+  pub bounds_told : (name : PartName) (stamp : ℕ) (hull : Extent) (new : List Part) → AreInstalled name stamp hull parts new → (past : List Change) → TellsOf entries past
       → bounds_of name new ≡ option_map (bounds_in past name stamp hull) (bounds_of name parts)
   bounds_told name stamp hull new are past told =
       subst (λ p. bounds_of name new ≡ option_map (bounds_in p name stamp hull) (bounds_of name parts)) (one_past past told) (bounds_installed kept.past name stamp hull parts new kept.reflects.stand are)
 
-  module _ (name : PartName) (stamp : ℕ) (hull : Extent) (tight : (past : List Change) → Tells (loads_of entries) past → IsTight past name stamp hull) (new : List Part) (are : AreInstalled name stamp hull parts new) where
+  module _ (name : PartName) (stamp : ℕ) (hull : Extent) (tight : (past : List Change) → TellsOf entries past → IsTight past name stamp hull) (new : List Part) (are : AreInstalled name stamp hull parts new) where
     tight_now : IsTight kept.past name stamp hull
     tight_now = tight kept.past kept.told
 

@@ -13,7 +13,7 @@ use Rattle.sc_history.specs.Content.{Collection, is_called}
 use Rattle.sc_history.specs.Changes.{Change, collections_after}
 use Rattle.sc_history.specs.History.{replay}
 use Rattle.sc_history.specs.Refusals.{HasRoom, IsAccepted, IsAllowed, IsRefused, bytes_with}
-use Rattle.sc_history.specs.Taken.{IsPast, Tells}
+use Rattle.sc_history.specs.Taken.{IsPast}
 use Rattle.sc_history.specs.Part.{Part}
 use Rattle.sc_history.specs.Touch.{ArePublished, touched_names}
 use Rattle.sc_history.specs.Sound.{Stand}
@@ -21,7 +21,8 @@ use Rattle.sc_catalog.specs.declared.entry.Entry.{Entry}
 use Rattle.sc_catalog.specs.declared.next.Admitted.{Admitted}
 use Rattle.sc_catalog.specs.declared.next.Next.{Next}
 use Rattle.sc_catalog.specs.declared.parts.PartsAfter.{PartsAfter}
-use Rattle.sc_catalog.specs.Holdings.{loads_of}
+use Rattle.sc_catalog.specs.Entries.{TellsOf}
+pub use Rattle.sc_catalog.specs.Entries.{change_of}
 use Rattle.sc_catalog.specs.Made.{is_of_items}
 
 -- the revision of the next load, the bytes of the loads, its collections, its parts and its index are what the changes say
@@ -40,11 +41,8 @@ pub record HasPast (revision bytes : ℕ) (collections : List Collection) (parts
 -- what every catalogue keeps
 pub record IsKept (entries : List Entry) (bytes : ℕ) (collections : List Collection) (parts : List Part) (index : ItemIndex) : Type 0 where
   pub past : List Change
-  pub told : Tells (loads_of entries) past
+  pub told : TellsOf entries past
   pub reflects : Reflects past (length entries + 1) bytes collections parts index
-
-abbrev pub change_of : Load → List Feature → Change
-change_of load come = record { load = load; come = come }
 
 -- ---- a load of items in a collection that is cut so
 

@@ -1,13 +1,11 @@
-ghost use Rattle.std.specs.Prelude.{◌≡◌, ◌+◌, ℕ, List, [], length, option_map, IfOk, IfErr, OnErr};
+ghost use Rattle.std.specs.Prelude.{◌≡◌, ◌+◌, ℕ, [], length, option_map, IfOk, IfErr, OnErr};
 ghost use Rattle.sc_load.specs.Load.{IsWellFormed};
-ghost use Rattle.sc_history.specs.Changes.{Change};
 ghost use Rattle.sc_history.specs.Part.{lookup};
-ghost use Rattle.sc_history.specs.Refusals.{IsRefused};
 ghost use Rattle.sc_history.specs.Sound.{Sound};
-ghost use Rattle.sc_history.specs.Taken.{Tells};
+ghost use Rattle.sc_history.specs.Taken.{Refuses};
 ghost use Rattle.sc_shelf.specs.Ticket.{Hull};
-ghost use Rattle.sc_catalog.specs.Holdings.{IsPublished, loads_of};
-ghost use Rattle.sc_catalog.specs.Views.{IsTightIn};
+ghost use Rattle.sc_catalog.specs.Entries.{IsTightOf, loads_of};
+ghost use Rattle.sc_catalog.specs.Holdings.{IsPublished};
 
 mod views;
 
@@ -87,10 +85,10 @@ impl Catalogue {
     /// also where memory is wanting. Hulls of tickets that could be installed still can.
     pub fn publish(&mut self, alloc: Global, by: u32, load: Load) -> Result<Published, LoadFault>
         requires { IsWellFormed load }
-        ensures ok { IfOk result (λ published. (past : List Change) → Tells (loads_of self.old.entries) past → IsPublished past by load self.old self.new published) }
-        ensures fault { IfErr result (λ fault. (past : List Change) → Tells (loads_of self.old.entries) past → IsRefused past load fault) }
+        ensures ok { IfOk result (IsPublished by load self.old self.new) }
+        ensures fault { IfErr result (Refuses (loads_of self.old.entries) load) }
         ensures err { OnErr result (self.new ≡ self.old) }
-        ensures hulls { (hull : Hull) → IsTightIn self.old hull → IsTightIn self.new hull }
+        ensures hulls { (hull : Hull) → IsTightOf self.old.entries hull → IsTightOf self.new.entries hull }
     {
         let revision = self.history.len() as u64 + 1;
         let next = prepare(

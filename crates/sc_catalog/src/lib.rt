@@ -7,6 +7,7 @@ mod come;
 mod entry;
 mod groups;
 mod indexed;
+pub mod laws;
 mod limits;
 mod next;
 mod parts;

@@ -10,8 +10,8 @@ use Rattle.sc_cqlgrammar.specs.declared.mark.Mark.TheVariants as marks
 use Rattle.sc_wkt.specs.Drawing.{draws, is_bad}
 use Rattle.sc_cqlvalue.specs.Values as values
 use Rattle.sc_expr.specs.declared.expr.Expr.{Expr}
-use Rattle.sc_cqlread.specs.declared.fault.CqlFault.{CqlFault}
-use Rattle.sc_cqlread.specs.declared.fault.CqlFault.TheVariants.{Syntax, TooDeep, TooManyNodes, BadLiteral, OutOfMemory}
+use Rattle.sc_expr.specs.declared.fault.CqlFault.{CqlFault}
+use Rattle.sc_expr.specs.declared.fault.CqlFault.TheVariants.{Syntax, TooDeep, TooManyNodes, BadLiteral, OutOfMemory}
 use Rattle.sc_cqlread.specs.declared.taking.End.TheVariants as ends
 use Rattle.sc_cqlread.specs.Tokens.{readable, is_readable}
 use Rattle.sc_cqlread.specs.Reading.{Reading, does, bad_of, place_of, unless_wide, drawn}

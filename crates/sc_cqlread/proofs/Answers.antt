@@ -3,8 +3,8 @@ use Rattle.std.proofs.Common.{◌≡◌, ◌⊎◌, inl, inr, ℕ, ◌<◌, ◌�
 use Rattle.std.specs.Prelude.{nat_le, if◌then◌else◌}
 use Rattle.sc_expr.specs.declared.expr.Expr.{Expr}
 use Rattle.sc_expr.specs.Measure.{depth, nodes}
-use Rattle.sc_cqlread.specs.declared.fault.CqlFault.{CqlFault}
-use Rattle.sc_cqlread.specs.declared.fault.CqlFault.TheVariants as faults
+use Rattle.sc_expr.specs.declared.fault.CqlFault.{CqlFault}
+use Rattle.sc_expr.specs.declared.fault.CqlFault.TheVariants as faults
 use Rattle.sc_cqlread.specs.declared.taking.End.{End}
 use Rattle.sc_cqlread.specs.declared.taking.End.TheVariants.{Whole, Broken, TooDeep}
 use Rattle.sc_cqlread.specs.Tokens.{readable, is_readable}

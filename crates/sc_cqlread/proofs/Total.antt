@@ -21,8 +21,8 @@ use Rattle.sc_expr.specs.Form.{IsFormed}
 use Rattle.sc_expr.specs.Measure.{depth, nodes}
 use Rattle.sc_cqlvalue.specs.Values as values
 use Rattle.sc_cqlvalue.proofs.Wholes.{one_left}
-use Rattle.sc_cqlread.specs.declared.fault.CqlFault.{CqlFault}
-use Rattle.sc_cqlread.specs.declared.fault.CqlFault.TheVariants as faults
+use Rattle.sc_expr.specs.declared.fault.CqlFault.{CqlFault}
+use Rattle.sc_expr.specs.declared.fault.CqlFault.TheVariants as faults
 use Rattle.sc_cqlread.specs.declared.taking.End.{End}
 use Rattle.sc_cqlread.specs.declared.taking.End.TheVariants.{Whole, Broken, TooDeep}
 use Rattle.sc_cqlread.specs.Tokens.{readable, is_readable}

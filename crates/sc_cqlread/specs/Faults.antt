@@ -3,8 +3,8 @@ use Rattle.std.specs.Prelude.{◌≡◌, ◌⊎◌, ℕ, ◌<◌, ◌≤◌, Lis
 use Rattle.sc_grammar.specs.declared.token.Token.{Token}
 use Rattle.sc_expr.specs.declared.expr.Expr.{Expr}
 use Rattle.sc_expr.specs.Measure.{depth, nodes}
-use Rattle.sc_cqlread.specs.declared.fault.CqlFault.{CqlFault}
-use Rattle.sc_cqlread.specs.declared.fault.CqlFault.TheVariants.{Syntax, TooDeep, TooManyNodes, BadLiteral, OutOfMemory}
+use Rattle.sc_expr.specs.declared.fault.CqlFault.{CqlFault}
+use Rattle.sc_expr.specs.declared.fault.CqlFault.TheVariants.{Syntax, TooDeep, TooManyNodes, BadLiteral, OutOfMemory}
 use Rattle.sc_cqlread.specs.Tokens.{readable, AreTokens}
 use Rattle.sc_cqlread.specs.Nesting.{deepest}
 use Rattle.sc_cqlread.specs.Reading.{Reading, bad_of}

@@ -3,8 +3,8 @@ use Rattle.std.specs.Prelude.{◌≡◌, ℕ, ◌<◌, ◌≤◌, [], ◌∷◌,
 use Rattle.sc_expr.specs.declared.expr.Expr.{Expr}
 use Rattle.sc_expr.specs.Filter.{IsFilter}
 use Rattle.sc_expr.specs.Measure.{depth, nodes}
-use Rattle.sc_cqlread.specs.declared.fault.CqlFault.{CqlFault}
-use Rattle.sc_cqlread.specs.declared.fault.CqlFault.TheVariants.{Syntax, TooDeep, TooManyNodes, BadLiteral, OutOfMemory}
+use Rattle.sc_expr.specs.declared.fault.CqlFault.{CqlFault}
+use Rattle.sc_expr.specs.declared.fault.CqlFault.TheVariants.{Syntax, TooDeep, TooManyNodes, BadLiteral, OutOfMemory}
 use Rattle.sc_cqlread.specs.Reading.{Reading, bad_of}
 
 -- every literal can be read, and it is the one expression

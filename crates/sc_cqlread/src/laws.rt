@@ -3,8 +3,8 @@ ghost use Rattle.std.specs.Prelude.{◌≡◌, ◌≢◌, ◌⊎◌, ◌≤◌, 
 ghost use Rattle.sc_expr.specs.declared.expr.Expr.{Expr};
 ghost use Rattle.sc_expr.specs.Form.{IsFormed};
 ghost use Rattle.sc_expr.specs.Measure.{depth, nodes};
-ghost use Rattle.sc_cqlread.specs.declared.fault.CqlFault.{CqlFault};
-ghost use Rattle.sc_cqlread.specs.declared.fault.CqlFault.TheVariants.{OutOfMemory};
+ghost use Rattle.sc_expr.specs.declared.fault.CqlFault.{CqlFault};
+ghost use Rattle.sc_expr.specs.declared.fault.CqlFault.TheVariants.{OutOfMemory};
 ghost use Rattle.sc_cqlread.specs.Filters.{IsExpr, IsCqlText};
 ghost use Rattle.sc_cqlread.specs.Faults.{IsFault};
 

@@ -1,7 +1,6 @@
 //! Reads filters from CQL2 text (OGC 21-065r2, Annex B).
 #![tactic(auto)]
 
-mod fault;
 pub mod laws;
 mod nesting;
 mod read;
@@ -10,6 +9,5 @@ mod taking;
 #[cfg(test)]
 mod tests;
 
-pub use fault::CqlFault;
 pub use read::read_text;
-pub use sc_expr::{Expr, Filter};
+pub use sc_expr::{CqlFault, Expr, Filter};

@@ -6,11 +6,10 @@ ghost use Rattle.sc_cqlread.specs.Reading.{Reading as Made};
 ghost use Rattle.sc_cqlread.specs.Kept.{Holds};
 ghost use Rattle.sc_cqlread.specs.Judged.{Judged, first_fault};
 
-use crate::fault::CqlFault;
 use crate::reading::Reading;
 use crate::taking::{End, take_all};
 use sc_cqlgrammar::{Rule, Stack};
-use sc_expr::{ExprFault, Filter};
+use sc_expr::{CqlFault, ExprFault, Filter};
 use sc_grammar::readable_len;
 use std::alloc::Global;
 

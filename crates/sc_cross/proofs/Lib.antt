@@ -7,3 +7,5 @@ pub mod Inside
 pub mod Walks
 pub mod Geometries
 pub mod Meetings
+pub mod Decided
+pub mod Rings

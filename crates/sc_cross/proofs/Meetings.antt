@@ -4,11 +4,11 @@ use Rattle.std.proofs.lemmas.Int.{ints, clamps, by_lt_z}
 use Rattle.std.proofs.lemmas.List.Elements.{All-head}
 use Rattle.std.proofs.Math.IntN.{*ℤ-zero, zero-*ℤ}
 use Rattle.sc_geom.specs.declared.point.Pt.{Pt}
-use Rattle.sc_geom.specs.Rectangle.{Rectangle, Holds}
+use Rattle.sc_geom.specs.Rectangle.{Rectangle, Holds, AreOverlapping}
 use Rattle.sc_geom.specs.Shapes.{Shapes, joined, positions_of}
 use Rattle.sc_geom.specs.Geometry.{IsRing, IsGeometry}
 use Rattle.sc_cross.specs.declared.segment.Segment.{Segment}
-use Rattle.sc_cross.specs.Segment.{segments_from, segments_of, side, sides_of, IsOn, AreOnOneSide, AreOverlapping, Touches}
+use Rattle.sc_cross.specs.Segment.{segments_from, segments_of, side, sides_of, IsOn, AreOnOneSide, Touches}
 use Rattle.sc_cross.specs.Area.{IsInside}
 use Rattle.sc_cross.specs.Parts.{IsRingIn}
 use Rattle.sc_cross.specs.Meets.{segments_in, SomePair, Meets, at_points, point_on_segment, segment_under_point, at_segments, position_inside, position_around}
@@ -158,10 +158,10 @@ meeting_overlaps r s a b is_a is_b in_r in_s (position_inside h) = overlap_insid
 meeting_overlaps r s a b is_a is_b in_r in_s (position_around h) = overlap_turned s r (overlap_inside s r b a in_s in_r is_a h)
 
 -- meeting is symmetric
-any_turned : {X Y : Type 0} (R : X → Y → Type 0) (S : Y → X → Type 0) → ((x : X) (y : Y) → R x y → S y x) → (xs : List X) (ys : List Y) → SomePair R xs ys → SomePair S ys xs
+pub any_turned : {X Y : Type 0} (R : X → Y → Type 0) (S : Y → X → Type 0) → ((x : X) (y : Y) → R x y → S y x) → (xs : List X) (ys : List Y) → SomePair R xs ys → SomePair S ys xs
 any_turned R S f xs ys h = let inner = h.4 in (inner.0, inner.1, inner.2, inner.3, (h.0, h.1, h.2, h.3, f h.1 inner.1 inner.4))
 
-touches_turned : (s t : Segment) → Touches s t → Touches t s
+pub touches_turned : (s t : Segment) → Touches s t → Touches t s
 touches_turned s t h = record { boxes = overlap_turned (sides_of s) (sides_of t) h.boxes; first = h.second; second = h.first }
 
 pub meets_turned : (a b : Shapes Pt) → Meets a b → Meets b a

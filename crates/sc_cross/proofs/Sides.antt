@@ -3,9 +3,9 @@ use Rattle.std.proofs.Common.{◌≡◌, ◌↔◌, ◌∙◌, inl, inr, refl, s
 use Rattle.std.specs.Int.{w128}
 use Rattle.std.proofs.lemmas.Int.{ints}
 use Rattle.sc_geom.specs.declared.point.Pt.{Pt}
-use Rattle.sc_geom.specs.Rectangle.{Rectangle, Holds}
+use Rattle.sc_geom.specs.Rectangle.{Rectangle, AreOverlapping}
 use Rattle.sc_cross.specs.declared.segment.Segment.{Segment}
-use Rattle.sc_cross.specs.Segment.{side, AreOnOneSide, AreOverlapping}
+use Rattle.sc_cross.specs.Segment.{side, AreOnOneSide}
 
 pub difference_fits : (l r : ℤ) → unsigned_abs l ≤ 2 ^ 66 → unsigned_abs r ≤ 2 ^ 66 →
     to_z w128 (of_z w128 (to_z w128 (of_z w128 l) -ℤ to_z w128 (of_z w128 r))) ≡ l -ℤ r
@@ -69,27 +69,3 @@ overlap_not r box across w e w' e' test none rw_w rw_e bw be = (
   λ yes. let both : true ≡ false = sym yes ∙ none in cc,
   λ h. test.1 (rw (rw_w, be) h.west, rw (bw, rw_e) h.east),
 )
-
--- a position in a box, as a box of its own
-abbrev as_box : Pt → Rectangle
-as_box p = record { west = p.x; south = p.y; east = p.x; north = p.y }
-
-held_as : (r : Rectangle) (p : Pt) → AreOverlapping r (as_box p) ↔ Holds r p
-held_as r p = (
-  λ h. record { west = h.west; east = h.east; south = h.south; north = h.north },
-  λ h. record { west = h.west; east = h.east; south = h.south; north = h.north },
-)
-
-pub held_both : (r : Rectangle) (p : Pt) (across up : Bool) (w e x x' s n y y' : ℤ) →
-    IsTrue across ↔ ((w ≤ℤ x') × (x ≤ℤ e)) → IsTrue up ↔ ((s ≤ℤ y') × (y ≤ℤ n)) → across ≡ true →
-    w ≡ r.west → e ≡ r.east → x ≡ p.x → x' ≡ p.x → s ≡ r.south → n ≡ r.north → y ≡ p.y → y' ≡ p.y →
-    IsTrue up ↔ Holds r p
-held_both r p across up w e x x' s n y y' test test' holds rw_w rw_e px px' rs rn py py' =
-    let both = overlap_both r (as_box p) across up w e x x' s n y y' test test' holds rw_w rw_e px px' rs rn py py' in
-    (λ yes. (held_as r p).0 (both.0 yes), λ h. both.1 ((held_as r p).1 h))
-
-pub held_not : (r : Rectangle) (p : Pt) (across : Bool) (w e x x' : ℤ) →
-    IsTrue across ↔ ((w ≤ℤ x') × (x ≤ℤ e)) → across ≡ false → w ≡ r.west → e ≡ r.east → x ≡ p.x → x' ≡ p.x → IsTrue across ↔ Holds r p
-held_not r p across w e x x' test none rw_w rw_e px px' =
-    let both = overlap_not r (as_box p) across w e x x' test none rw_w rw_e px px' in
-    (λ yes. (held_as r p).0 (both.0 yes), λ h. both.1 ((held_as r p).1 h))

@@ -7,7 +7,7 @@ use Rattle.sc_geom.specs.Geometry.{IsRing}
 use Rattle.sc_cross.specs.declared.segment.Segment.{Segment}
 use Rattle.sc_geom.specs.Shapes.{Shapes}
 use Rattle.sc_cross.specs.Segment.{segments_of, IsOn, Touches}
-use Rattle.sc_cross.specs.Area.{is_crossed}
+use Rattle.sc_cross.specs.Area.{is_crossed, IsInside}
 use Rattle.sc_cross.specs.Meets.{segments_in, SomePair}
 
 -- the answer, turned over for each edge that is crossed
@@ -36,3 +36,15 @@ PathTouches g path = SomePair Touches (segments_of path) (segments_in g)
 -- the position is on a segment of the geometry
 unfoldable pub IsOnOneOf : Shapes Pt → Pt → Type 0
 IsOnOneOf g p = Any (IsOn p) (segments_in g)
+
+-- the position lies in the area of the ring
+unfoldable pub IsInRing : List Pt → Pt → Type 0
+IsInRing ring p = IsInside p (ring ∷ [])
+
+-- the position is on the ring
+unfoldable pub IsOnRing : List Pt → Pt → Type 0
+IsOnRing ring p = Any (IsOn p) (segments_of ring)
+
+-- the area of one ring
+abbrev pub area_of : List Pt → Shapes Pt
+area_of ring = record { points = []; lines = []; areas = (ring ∷ []) ∷ [] }

@@ -1,9 +1,9 @@
 -- Segments between two grid positions: on which side of their line a position lies, and where two of them touch. All in whole numbers.
-use Rattle.std.specs.Prelude.{◌≡◌, ℤ, pos, ◌-ℤ◌, ◌*ℤ◌, ◌≤ℤ◌, ◌<ℤ◌, ◌⊎◌, List, [], ◌∷◌}
+use Rattle.std.specs.Prelude.{◌≡◌, ℤ, pos, ◌-ℤ◌, ◌*ℤ◌, ◌<ℤ◌, ◌⊎◌, List, [], ◌∷◌}
 use Rattle.std.specs.Int.{int_min, int_max}
 use Rattle.sc_geom.specs.declared.point.Pt.{Pt}
 use Rattle.sc_geom.specs.Point.{IsInWorld}
-use Rattle.sc_geom.specs.Rectangle.{Rectangle, Holds}
+use Rattle.sc_geom.specs.Rectangle.{Rectangle, Holds, AreOverlapping}
 use Rattle.sc_cross.specs.declared.segment.Segment.{Segment}
 
 -- both ends are in the world
@@ -35,13 +35,6 @@ sides_of s = record {
   east = int_max s.from.x s.to.x;
   north = int_max s.from.y s.to.y;
 }
-
--- the boxes have a position in common, on their sides too
-pub record AreOverlapping (r s : Rectangle) : Type 0 where
-  pub west : r.west ≤ℤ s.east
-  pub east : s.west ≤ℤ r.east
-  pub south : r.south ≤ℤ s.north
-  pub north : s.south ≤ℤ r.north
 
 -- the position lies on the segment, at an end too
 pub record IsOn (p : Pt) (s : Segment) : Type 0 where

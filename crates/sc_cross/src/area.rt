@@ -3,7 +3,7 @@ ghost use Rattle.std.specs.Prelude.{◌≡◌, ◌↔◌, IsTrue, not, All, if�
 ghost use Rattle.sc_geom.specs.Point.{IsInWorld};
 ghost use Rattle.sc_cross.specs.Segment.{IsSegmentInWorld, segments_from, segments_of};
 ghost use Rattle.sc_cross.specs.Area.{rises_east, is_crossed, IsInside};
-ghost use Rattle.sc_cross.specs.Parts.{turned_over};
+ghost use Rattle.sc_cross.specs.Parts.{turned_over, IsInRing};
 
 use crate::segment::{Segment, side, turned};
 use sc_base::Seq;
@@ -81,4 +81,13 @@ pub fn is_inside(at: Pt, rings: &[Seq<Pt>]) -> bool
         odd = turned_over(odd, at, ring.as_slice());
     }
     odd
+}
+
+/// Whether the position lies in the area of one ring.
+pub fn is_in_ring(at: Pt, ring: &[Pt]) -> bool
+    requires at { IsInWorld at }
+    requires ring { All IsInWorld ring.now }
+    ensures { IsTrue result ↔ IsInRing ring.now at }
+{
+    turned_over(false, at, ring)
 }

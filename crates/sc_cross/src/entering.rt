@@ -8,17 +8,8 @@ ghost use Rattle.sc_cross.specs.Meets.{SomePair};
 ghost use Rattle.sc_cross.specs.Parts.{IsRingIn};
 
 use crate::area::is_inside;
-use crate::segment::share_one;
 use sc_base::Seq;
 use sc_geom::{Geom, GridBox, Pt};
-
-/// Whether the box has the position.
-fn holds(extent: &GridBox, at: Pt) -> bool
-    ensures { IsTrue result ↔ Holds extent.now at }
-{
-    share_one(extent.west(), extent.east(), at.x, at.x)
-        && share_one(extent.south(), extent.north(), at.y, at.y)
-}
 
 /// Whether the position lies in one of the areas.
 fn is_in_one_of(at: Pt, areas: &[Seq<Seq<Pt>>]) -> bool
@@ -35,11 +26,11 @@ fn enters_one_of(at: Pt, areas: &[Seq<Seq<Pt>>], extent: &GridBox) -> bool
     requires areas { All (All (IsRingIn extent.now)) areas.now }
     ensures { IsTrue result ↔ Any (IsInside at) areas.now }
 {
-    holds(extent, at) && is_in_one_of(at, areas)
+    extent.holds(at) && is_in_one_of(at, areas)
 }
 
 /// Whether one of the positions lies in one of the areas.
-fn path_enters(path: &[Pt], areas: &[Seq<Seq<Pt>>], extent: &GridBox) -> bool
+pub fn path_enters(path: &[Pt], areas: &[Seq<Seq<Pt>>], extent: &GridBox) -> bool
     requires path { All IsInWorld path.now }
     requires areas { All (All (IsRingIn extent.now)) areas.now }
     ensures { IsTrue result ↔ SomePair IsInside path.now areas.now }

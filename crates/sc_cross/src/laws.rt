@@ -1,12 +1,17 @@
 //! What follows from the definitions alone. Each function has an empty body: its clause is the law.
-ghost use Rattle.std.specs.Prelude.{Any};
+ghost use Rattle.std.specs.Prelude.{◌≡◌, true, Any};
 ghost use Rattle.sc_geom.specs.declared.point.Pt.{Pt as PtRecord};
-ghost use Rattle.sc_geom.specs.Rectangle.{Rectangle, Holds, IsSmallest};
+ghost use Rattle.sc_geom.specs.Rectangle.{Rectangle, Holds, IsSmallest, AreOverlapping};
 ghost use Rattle.sc_geom.specs.Shapes.{Shapes, positions_of};
 ghost use Rattle.sc_geom.specs.Geometry.{IsGeometry};
-ghost use Rattle.sc_cross.specs.Segment.{AreOverlapping};
 ghost use Rattle.sc_cross.specs.Area.{IsInside};
 ghost use Rattle.sc_cross.specs.Meets.{Meets};
+ghost use Rattle.sc_cross.specs.Meeting.{do_meet};
+
+/// The test of a meeting tells just that.
+pub fn meeting_is_tested()
+    ensures { (a b : Shapes PtRecord) → (do_meet a b ≡ true → Meets a b) × (Meets a b → do_meet a b ≡ true) }
+{}
 
 /// Meeting is symmetric.
 pub fn meeting_is_symmetric()

@@ -2,6 +2,7 @@
 #![tactic(auto)]
 
 mod area;
+mod boxed;
 mod entering;
 pub mod laws;
 mod meeting;
@@ -10,5 +11,6 @@ mod segment;
 mod tests;
 mod touching;
 
-pub use meeting::meets;
+pub use boxed::meets_rects;
+pub use meeting::{meets, meets_within};
 pub use sc_geom::Geom;

@@ -1,12 +1,10 @@
 ghost use Rattle.std.specs.Prelude.{◌≡◌, ◌↔◌, IsTrue, All, Any};
 ghost use Rattle.sc_geom.specs.Rectangle.{Holds};
-ghost use Rattle.sc_geom.specs.Geometry.{IsGeometry};
 ghost use Rattle.sc_geom.specs.Shapes.{positions_of};
-ghost use Rattle.sc_cross.specs.Segment.{AreOverlapping};
 ghost use Rattle.sc_cross.specs.Meets.{Meets, SomePair};
+ghost use Rattle.sc_cross.specs.Meeting.{do_meet};
 
 use crate::entering::enters;
-use crate::segment::share_one;
 use crate::touching::{points_touch, segments_touch};
 use sc_geom::{Geom, GridBox, Pt, box_of};
 
@@ -28,23 +26,6 @@ fn share_a_point(a: &Geom, b: &Geom) -> bool
     ensures { IsTrue result ↔ SomePair (λ p q. p ≡ q) a.now.points b.now.points }
 {
     have_equal(a.points(), b.points())
-}
-
-/// Whether the boxes have a position in common.
-fn are_overlapping(a: &GridBox, b: &GridBox) -> bool
-    ensures { IsTrue result ↔ AreOverlapping a.now b.now }
-{
-    share_one(a.west(), a.east(), b.west(), b.east())
-        && share_one(a.south(), a.north(), b.south(), b.north())
-}
-
-/// The box of all positions, and what every geometry keeps, which is known from its lists.
-fn extent_of(geom: &Geom) -> GridBox
-    ensures holds { All (Holds result) (positions_of geom.now) }
-    ensures kept { IsGeometry geom.now }
-{
-    let _points = geom.points();
-    box_of(geom)
 }
 
 /// Whether the geometries meet, each of which lies in its box.
@@ -71,6 +52,18 @@ fn meet_in_boxes(a: &Geom, b: &Geom, of_a: &GridBox, of_b: &GridBox) -> bool
     segments_touch(a, b, of_b)
 }
 
+/// The same as [`meets`], where the caller knows a box of each geometry that holds all its positions.
+pub fn meets_within(a: &Geom, of_a: &GridBox, b: &Geom, of_b: &GridBox) -> bool
+    requires of_a { All (Holds of_a.now) (positions_of a.now) }
+    requires of_b { All (Holds of_b.now) (positions_of b.now) }
+    ensures meets { IsTrue result ↔ Meets a.now b.now }
+    ensures test { result ≡ do_meet a.now b.now }
+{
+    let _points = a.points();
+    let _others = b.points();
+    of_a.overlaps(of_b) && meet_in_boxes(a, b, of_a, of_b)
+}
+
 /// Whether two geometries meet: two points are equal, or a point of one is on a segment of the other, or two segments
 /// touch, or a position of one lies in an area of the other. Touching counts, at an end too; a hole's inside is no part
 /// of its area.
@@ -78,9 +71,8 @@ fn meet_in_boxes(a: &Geom, b: &Geom, of_a: &GridBox, of_b: &GridBox) -> bool
 /// Segments are those of lines and of rings. A position lies in an area where the way from it to the east crosses an odd
 /// number of the edges of all its rings. All products are exact. It takes no memory, and looks at boxes first.
 pub fn meets(a: &Geom, b: &Geom) -> bool
-    ensures { IsTrue result ↔ Meets a.now b.now }
+    ensures meets { IsTrue result ↔ Meets a.now b.now }
+    ensures test { result ≡ do_meet a.now b.now }
 {
-    let of_a = extent_of(a);
-    let of_b = extent_of(b);
-    are_overlapping(&of_a, &of_b) && meet_in_boxes(a, b, &of_a, &of_b)
+    meets_within(a, &box_of(a), b, &box_of(b))
 }

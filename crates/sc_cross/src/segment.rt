@@ -2,8 +2,8 @@
 ghost use Rattle.std.specs.Prelude.{◌≡◌, ◌↔◌, ◌≤◌, ◌^◌, pos, ◌-ℤ◌, ◌*ℤ◌, ◌≤ℤ◌, ◌<ℤ◌, IsTrue, unsigned_abs};
 ghost use Rattle.std.specs.Int.{int_min, int_max};
 ghost use Rattle.sc_geom.specs.Point.{IsInWorld, IsLongitude};
-ghost use Rattle.sc_geom.specs.Rectangle.{Rectangle};
-ghost use Rattle.sc_cross.specs.Segment.{side, turned, sides_of, IsSegmentInWorld, AreOnOneSide, AreOverlapping, Touches};
+ghost use Rattle.sc_geom.specs.Rectangle.{Rectangle, AreOverlapping};
+ghost use Rattle.sc_cross.specs.Segment.{side, turned, sides_of, IsSegmentInWorld, AreOnOneSide, Touches};
 
 use sc_geom::{GridBox, Pt};
 
@@ -96,7 +96,7 @@ fn greater(a: i64, b: i64) -> i64
 }
 
 /// Whether two ranges have a number in common.
-pub fn share_one(low: i64, high: i64, other_low: i64, other_high: i64) -> bool
+fn share_one(low: i64, high: i64, other_low: i64, other_high: i64) -> bool
     ensures { IsTrue result ↔ ((low ≤ℤ other_high) × (other_low ≤ℤ high)) }
 {
     low <= other_high && other_low <= high

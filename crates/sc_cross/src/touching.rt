@@ -30,7 +30,7 @@ fn touches_along(segment: Segment, first: Pt, rest: &[Pt]) -> bool
 
 /// Whether the segment touches one of the path.
 #[tactic(auto, unfolding(crate::specs::Parts::TouchesPath))]
-fn touches_path(segment: Segment, path: &[Pt]) -> bool
+pub fn touches_path(segment: Segment, path: &[Pt]) -> bool
     requires segment { IsSegmentInWorld segment }
     requires path { All IsInWorld path.now }
     ensures { IsTrue result ↔ TouchesPath segment path.now }
@@ -102,7 +102,7 @@ fn one_touches_along(first: Pt, rest: &[Pt], other: &Geom, extent: &GridBox) -> 
 
 /// Whether one of the path's segments touches one of the geometry.
 #[tactic(auto, unfolding(crate::specs::Parts::PathTouches))]
-fn path_touches(path: &[Pt], other: &Geom, extent: &GridBox) -> bool
+pub fn path_touches(path: &[Pt], other: &Geom, extent: &GridBox) -> bool
     requires path { All IsInWorld path.now }
     requires extent { All (Holds extent.now) (positions_of other.now) }
     ensures { IsTrue result ↔ PathTouches other.now path.now }

@@ -131,7 +131,7 @@ both_positive a b r p q e f h = in_units a b false false r p q e f (h ∙ sym (o
 pub both_negative : (a b : Number) (r : Ordering) → IsDec a → IsDec b → a.neg ≡ true → b.neg ≡ true → r ≡ nat_cmp (counted_in least_exponent b) (counted_in least_exponent a) → (r ≡ order_of a b) × (r ≡ dec_cmp a b)
 both_negative a b r p q e f h = in_units a b true true r p q e f (h ∙ sym (order_negative (counted_in least_exponent a) (counted_in least_exponent b)))
 
-counted_some : (l : ℤ) (n : Number) → 0 < n.m → 0 < counted_in l n
+pub counted_some : (l : ℤ) (n : Number) → 0 < n.m → 0 < counted_in l n
 counted_some l n some = let h : 1 * 1 ≤ n.m * 10 ^ above n.e l = mul-le-mul {n₁ = 1} some (tens (above n.e l)) in omega (arith, h)
 
 pub only_second : (a b : Number) → IsDec a → IsDec b → a.neg ≡ false → b.neg ≡ true → (Greater ≡ order_of a b) × (Greater ≡ dec_cmp a b)
@@ -150,7 +150,7 @@ seen_as a a' b b' r e f h =
 
 -- ---- one form for each number
 
-signed_same : (s t : Bool) (x y : ℕ) → signed s x ≡ signed t y → 0 < x → (s ≡ t) × (x ≡ y)
+pub signed_same : (s t : Bool) (x y : ℕ) → signed s x ≡ signed t y → 0 < x → (s ≡ t) × (x ≡ y)
 signed_same false false x y e some = (refl, omega (arith, ints))
 signed_same false true x zero e some = absurd (omega (arith, ints))
 signed_same false true x (suc y) e some = absurd (omega (arith, ints))
@@ -167,7 +167,7 @@ pub equal_int : (x y : ℤ) → x ≡ y → int_cmp x y ≡ Equal
 equal_int x y e = sym (int_cmp_is x y Equal e)
 
 -- a multiple of ten isn't normal
-ten_divides : (x k : ℕ) → 0 < k → (x * 10 ^ k) % 10 ≡ 0
+pub ten_divides : (x k : ℕ) → 0 < k → (x * 10 ^ k) % 10 ≡ 0
 ten_divides x k some =
     let up : k ≡ (k - 1) + 1 = omega arith in
     let e : x * 10 ^ k ≡ x * 10 ^ (k - 1) * 10 = ap (λ (n : ℕ). x * 10 ^ n) up ∙ ap (λ (n : ℕ). x * n) (pow-add 10 (k - 1) 1) ∙ sym (mul_assoc x (10 ^ (k - 1)) 10) in
@@ -180,7 +180,7 @@ counted_none l n e =
       | inr none ↦ omega arith
     ]
 
-zero_is : (n : Number) → IsNormal n → n.m ≡ 0 → n ≡ zero_number
+pub zero_is : (n : Number) → IsNormal n → n.m ≡ 0 → n ≡ zero_number
 zero_is n h e = h.trimmed (omega arith)
 
 -- where one exponent isn't above the other

@@ -1,5 +1,5 @@
 -- Decimal numbers: what they stand for, their order, and the one form that each is kept in.
-use Rattle.std.specs.Prelude.{◌≡◌, ℕ, ◌*◌, ◌%◌, ◌^◌, ◌<◌, ℤ, pos, negsuc, suc, ◌-ℤ◌, neg_ℤ, ◌≤ℤ◌, Bool, true, false, Option, Some, None}
+use Rattle.std.specs.Prelude.{◌≡◌, ℕ, ◌*◌, ◌%◌, ◌^◌, ◌<◌, nat_lt, if◌then◌else◌, ℤ, pos, negsuc, suc, ◌-ℤ◌, neg_ℤ, ◌≤ℤ◌, Bool, true, false, Option, Some, None}
 use Rattle.std.specs.declared.cmp.Ordering.{Ordering}
 use Rattle.std.specs.declared.cmp.Ordering.TheVariants.{Equal}
 use Rattle.std.specs.Ordering.{int_cmp}
@@ -82,3 +82,12 @@ IsKept n None = (d : Number) → IsDec d → order_of d n ≡ Equal → ⊥
 abbrev pub integer : ℤ → Number
 integer (pos n) = record { neg = false; m = n; e = pos 0 }
 integer (negsuc n) = record { neg = true; m = suc n; e = pos 0 }
+
+-- `m` times ten to the power `e` as a whole number, where it is one of a magnitude below 2^127: a negative exponent
+-- leaves a fraction, since the digits of a kept number don't end in a 0
+abbrev pub whole_of : Bool → ℕ → ℤ → Option ℤ
+whole_of neg m (pos e) = if nat_lt (m * 10 ^ e) (2 ^ 127) then Some (signed neg (m * 10 ^ e)) else None
+whole_of neg m (negsuc e) = None
+
+abbrev pub integer_of : Number → Option ℤ
+integer_of n = whole_of n.neg n.m n.e

@@ -1,8 +1,10 @@
 //! What holds of the definitions that the contracts cite. The functions do nothing: each states
 //! a fact for the proofs of other crates.
-ghost use Rattle.std.specs.Prelude.{◌≡◌, ◌++◌, ℕ, ℤ, Bool, true, not, List, Option};
+ghost use Rattle.std.specs.Prelude.{◌≡◌, ◌++◌, ℕ, ℤ, Bool, true, not, List, Option, Some};
 ghost use Rattle.std.specs.declared.cmp.Ordering.TheVariants.{Equal};
-ghost use Rattle.sc_decimal.specs.Number.{Number, IsDec, dec_cmp, order_of};
+ghost use Rattle.std.specs.Prelude.{FitsSigned};
+ghost use Rattle.std.specs.Int.{w128};
+ghost use Rattle.sc_decimal.specs.Number.{Number, IsDec, IsKept, dec_cmp, order_of, integer, integer_of};
 ghost use Rattle.sc_decimal.specs.Grid.{IsOnGrid};
 ghost use Rattle.sc_decimal.specs.Numeral.{Sign, Mantissa, Exponent, IsNumeral};
 ghost use Rattle.sc_decimal.specs.Literal.{literal_of};
@@ -22,6 +24,13 @@ pub fn one_order()
 /// Numbers that are equal are the same in sign, digits and exponent.
 pub fn equal_same()
     ensures { (a b : Number) → IsDec a → IsDec b → dec_cmp a b ≡ Equal → a ≡ b }
+{}
+
+/// The whole number of a number is the one of 128 bits that equals it, and that which a kept whole number was made of.
+pub fn whole_numbers()
+    ensures equal { (n : Number) (i : ℤ) → IsDec n → integer_of n ≡ Some i → order_of n (integer i) ≡ Equal }
+    ensures only { (n : Number) (i : ℤ) → IsDec n → FitsSigned w128 i → order_of n (integer i) ≡ Equal → integer_of n ≡ Some i }
+    ensures back { (n : Number) (i : ℤ) → FitsSigned w128 i → IsKept (integer i) (Some n) → integer_of n ≡ Some i }
 {}
 
 /// A text is of one number at most.

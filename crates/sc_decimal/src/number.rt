@@ -6,6 +6,7 @@ use crate::literal::push_literal;
 use crate::make;
 use crate::reading::read;
 use crate::scale::compare_magnitudes;
+use crate::whole::to_integer;
 use std::alloc::AllocError;
 use std::cmp::Ordering;
 use std::marker::Model;
@@ -100,7 +101,7 @@ impl Ord for Dec {
 }
 
 impl Dec {
-    ghost use Rattle.sc_decimal.specs.Number.{IsDec, IsKept, integer, order_of};
+    ghost use Rattle.sc_decimal.specs.Number.{IsDec, IsKept, integer, integer_of, order_of};
     ghost use Rattle.sc_decimal.specs.Numeral.{Reads, IsNumeral};
     ghost use Rattle.sc_decimal.specs.Literal.{literal_of};
     ghost use Rattle.sc_decimal.specs.Value.{Answers};
@@ -129,6 +130,14 @@ impl Dec {
         ensures { IsKept (integer number) result }
     {
         make::of_integer(number)
+    }
+
+    /// The whole number that it equals; `None` exactly where it has a fraction, or where its magnitude isn't below 2^127.
+    /// [`whole_numbers`](crate::whole_numbers) says that this takes back what [`Dec::of_integer`] gave.
+    pub fn to_integer(&self) -> Option<i128>
+        ensures { result ≡ integer_of self.now }
+    {
+        to_integer(self.neg, self.m, self.e)
     }
 
     /// Whether the number is negative.

@@ -16,7 +16,7 @@ mod select;
 mod tests;
 
 pub use expr::{CompOp, Expr, Truth3};
-pub use fault::ExprFault;
+pub use fault::{CqlFault, ExprFault};
 pub use filter::Filter;
 pub use query::Query;
 pub use sc_base::{Boxed, Seq, Text};

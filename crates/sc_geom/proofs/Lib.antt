@@ -8,3 +8,5 @@ pub mod Steps
 pub mod Results
 pub mod Smallest
 pub mod Spans
+pub mod Deciding
+pub mod Sharing

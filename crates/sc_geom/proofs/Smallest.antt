@@ -1,13 +1,14 @@
 -- The smallest rectangle, position by position.
-use Rattle.std.proofs.Common.{zero, suc, ◌≡◌, ℕ, ◌+◌, ◌<◌, List, [], ◌∷◌, ◌++◌, length, get_or, take, Option, None, refl, ap, sym, subst, ◌∙◌, arith, append_assoc}
+use Rattle.std.proofs.Common.{zero, suc, ◌≡◌, ℕ, ◌+◌, ◌<◌, ◌≤◌, ℤ, List, [], ◌∷◌, ◌++◌, length, get_or, take, Option, None, refl, ap, sym, subst, ◌∙◌, arith, append_assoc}
 use Rattle.std.specs.Prelude.{All}
 use Rattle.std.specs.Int.{int_min, int_max}
 use Rattle.std.proofs.lemmas.Int.{ints, clamps}
-use Rattle.std.proofs.lemmas.List.{take_more}
+use Rattle.std.proofs.lemmas.List.{take_more, append-nil}
 use Rattle.std.proofs.lemmas.List.Elements.{All-nil, All-cons, All-head, All-tail, All-push, All-weaker}
 use Rattle.sc_geom.specs.declared.point.Pt.{Pt}
-use Rattle.sc_geom.specs.Shapes.{joined}
-use Rattle.sc_geom.specs.Rectangle.{Rectangle, Holds, IsSmallest, Encloses}
+use Rattle.sc_geom.specs.Rectangle.{Rectangle, Holds, IsSmallest, Encloses, at_position, with_position, with_positions, smallest_of, smallest}
+use Rattle.sc_geom.specs.Shapes.{Shapes, joined, positions_of}
+use Rattle.sc_geom.specs.Geometry.{IsGeometry}
 use Rattle.sc_geom.proofs.Lists.{joined-push, joined-append}
 
 pub all_front : {X : Type 0} (P : X → Type 0) (xs ys : List X) → All P (xs ++ ys) → All P xs
@@ -77,3 +78,30 @@ pub enclosed : (points : List Pt) (lines rings : List Pt) (a b d : Option Rectan
     ((before : List Pt) → Encloses a before → Encloses b (before ++ lines)) →
     ((before : List Pt) → Encloses b before → Encloses d (before ++ rings)) → Encloses d (points ++ lines ++ rings)
 enclosed points lines rings a b d f g h = h (points ++ lines) (g points (f [] refl))
+
+-- ---- the definition by positions
+
+smallest_over : (r : Rectangle) (ps before : List Pt) → IsSmallest r before → IsSmallest (with_positions r ps) (before ++ ps)
+smallest_over r [] before is = subst (IsSmallest r) (sym (append-nil before)) is
+smallest_over r (p ∷ ps) before is =
+    subst (IsSmallest (with_positions (with_position r p) ps)) (append_assoc before (p ∷ []) ps)
+    (smallest_over (with_position r p) ps (before ++ p ∷ []) (smallest_more r p before (with_position r p) is refl refl refl refl))
+
+smallest_of_is : (ps : List Pt) → 1 ≤ length ps → IsSmallest (smallest_of ps) ps
+smallest_of_is [] some = absurd (omega arith)
+smallest_of_is (p ∷ ps) some = smallest_over (at_position p) ps (p ∷ []) (smallest_first p (at_position p) refl refl refl refl)
+
+pub smallest_is : (g : Shapes Pt) → IsGeometry g → IsSmallest (smallest g) (positions_of g)
+unfolding smallest
+smallest_is g kept = smallest_of_is (positions_of g) kept.some
+
+sides : (w s e n w' s' e' n' : ℤ) → w ≡ w' → s ≡ s' → e ≡ e' → n ≡ n' →
+    (let r : Rectangle = record { west = w; south = s; east = e; north = n } in let r' : Rectangle = record { west = w'; south = s'; east = e'; north = n' } in r ≡ r')
+sides w s e n w' s' e' n' west south east north = rw (west, south, east, north) refl
+
+pub one_smallest : (r s : Rectangle) (ps : List Pt) → IsSmallest r ps → IsSmallest s ps → r ≡ s
+one_smallest r s ps is is' =
+    let a = is.least s is'.holds in
+    let b = is'.least r is.holds in
+    sides r.west r.south r.east r.north s.west s.south s.east s.north
+    (omega (arith, ints, a.west, b.west)) (omega (arith, ints, a.south, b.south)) (omega (arith, ints, a.east, b.east)) (omega (arith, ints, a.north, b.north))

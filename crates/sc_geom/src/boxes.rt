@@ -1,6 +1,8 @@
-ghost use Rattle.std.specs.Prelude.{◌≡◌};
-ghost use Rattle.sc_geom.specs.Rectangle.{IsBox};
+ghost use Rattle.std.specs.Prelude.{◌≡◌, ◌↔◌, ◌≤ℤ◌, IsTrue};
+ghost use Rattle.sc_geom.specs.Rectangle.{IsBox, Holds, AreOverlapping, overlap};
+ghost use Rattle.sc_geom.specs.Rects.{ring_of};
 
+use crate::point::Pt;
 use std::marker::Model;
 
 /// A box between two meridians and two parallels, in steps of 10^-7 degree.
@@ -72,4 +74,57 @@ impl GridBox {
     {
         self.north
     }
+
+    /// Whether the box has the position, on its sides too.
+    pub fn holds(&self, at: Pt) -> bool
+        ensures { IsTrue result ↔ Holds self.now at }
+    {
+        have_common(self.west(), self.east(), at.x, at.x)
+            && have_common(self.south(), self.north(), at.y, at.y)
+    }
+
+    /// Whether the boxes have a position in common, on their sides too.
+    pub fn overlaps(&self, other: &GridBox) -> bool
+        ensures fact { IsTrue result ↔ AreOverlapping self.now other.now }
+        ensures test { result ≡ overlap self.now other.now }
+    {
+        have_common(self.west(), self.east(), other.west(), other.east())
+            && have_common(self.south(), self.north(), other.south(), other.north())
+    }
+
+    /// The ring round the box, from west-south over east-south, east-north and west-north back to west-south.
+    pub fn ring(&self) -> [Pt; 5]
+        ensures ring { result ≡ ring_of self.now }
+        ensures kept { IsBox self.now }
+    {
+        [
+            Pt {
+                x: self.west,
+                y: self.south,
+            },
+            Pt {
+                x: self.east,
+                y: self.south,
+            },
+            Pt {
+                x: self.east,
+                y: self.north,
+            },
+            Pt {
+                x: self.west,
+                y: self.north,
+            },
+            Pt {
+                x: self.west,
+                y: self.south,
+            },
+        ]
+    }
+}
+
+/// Whether two ranges have a number in common.
+fn have_common(low: i64, high: i64, other_low: i64, other_high: i64) -> bool
+    ensures { IsTrue result ↔ ((low ≤ℤ other_high) × (other_low ≤ℤ high)) }
+{
+    low <= other_high && other_low <= high
 }

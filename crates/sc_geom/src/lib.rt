@@ -27,7 +27,7 @@ pub use draft::Draft;
 pub use extent::box_of;
 pub use fault::GeomFault;
 pub use geom::Geom;
-pub use laws::tree_depicts_one;
+pub use laws::{one_smallest, rectangle_tests, tree_depicts_one};
 pub use outline::geom_of_rects;
 pub use path::Path;
 pub use place::{latitude, longitude};

@@ -14,20 +14,7 @@ fn area_of(alloc: Global, extent: &GridBox) -> Result<Seq<Seq<Pt>>, AllocError>
     ensures area { IfOk result (λ area. area ≡ ring_of extent.now ∷ []) }
     ensures kept { IsBox extent.now }
 {
-    let west = extent.west();
-    let south = extent.south();
-    let east = extent.east();
-    let north = extent.north();
-    let ring = Vec::from_array(
-        alloc,
-        [
-            Pt { x: west, y: south },
-            Pt { x: east, y: south },
-            Pt { x: east, y: north },
-            Pt { x: west, y: north },
-            Pt { x: west, y: south },
-        ],
-    )?;
+    let ring = Vec::from_array(alloc, extent.ring())?;
     let mut rings = Vec::with_capacity(alloc, 1)?;
     rings.push(Seq::of(ring))?;
     Ok(Seq::of(rings))

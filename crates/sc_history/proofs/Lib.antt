@@ -26,3 +26,4 @@ pub mod Answering
 pub mod Orders
 pub mod Limits
 pub mod Examples
+pub mod Covering

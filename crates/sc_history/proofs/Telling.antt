@@ -1,5 +1,6 @@
 -- A history is told in one way, and grows by accepted loads.
-use Rattle.std.proofs.Common.{◌≡◌, List, [], ◌∷◌, map, refl, sym, ap, ◌∙◌, subst, Less}
+use Rattle.std.proofs.Common.{◌≡◌, List, [], ◌∷◌, ◌++◌, length, map, refl, sym, ap, ◌∙◌, subst, Less}
+use Rattle.std.proofs.lemmas.List.{length-map}
 use Rattle.sc_load.specs.declared.load.Load.{Load}
 use Rattle.sc_history.specs.Content.{Collection, nothing}
 use Rattle.sc_history.specs.Changes.{Change, Puts, collections_after}
@@ -35,6 +36,29 @@ one_past (a ∷ past) (b ∷ others) e is is' =
 
 pub one_telling : (history : List Load) (past others : List Change) → Tells history past → Tells history others → past ≡ others
 one_telling history past others a b = one_past past others (a.loads ∙ sym b.loads) a.accepted b.accepted
+
+-- ---- a longer history
+
+split_loads : (newer older : List Load) (past : List Change) → map (λ c. c.load) past ≡ newer ++ older → (later : List Change) × (before : List Change) × (past ≡ later ++ before) × (map (λ c. c.load) before ≡ older)
+split_loads [] older past e = ([], past, refl, e)
+split_loads (x ∷ newer) older [] e = absurd cc
+split_loads (x ∷ newer) older (c ∷ past) e =
+    let rest : map (λ (d : Change). d.load) past ≡ newer ++ older = cc in
+    let r = split_loads newer older past rest in
+    (c ∷ r.0, r.1, ap (λ l. c ∷ l) r.2, r.3)
+
+older_past : (later before : List Change) → IsPast (later ++ before) → IsPast before
+older_past [] before is = is
+older_past (c ∷ later) before is = older_past later before is.1
+
+-- what tells a longer history ends with what tells its beginning
+pub told_split : (newer older : List Load) (past : List Change) → Tells (newer ++ older) past → (later : List Change) × (before : List Change) × (past ≡ later ++ before) × Tells older before
+told_split newer older past told =
+    let r = split_loads newer older past told.loads in
+    (r.0, r.1, r.2, record { loads = r.3; accepted = older_past r.0 r.1 (subst IsPast r.2 told.accepted) })
+
+pub told_length : (history : List Load) (past : List Change) → Tells history past → length past ≡ length history
+told_length history past told = sym (length-map past (λ (c : Change). c.load)) ∙ ap length told.loads
 
 -- ---- it grows
 

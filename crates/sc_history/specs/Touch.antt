@@ -8,7 +8,7 @@ use Rattle.sc_bounds.specs.Extent.{Extent}
 use Rattle.sc_bounds.specs.Sets.{join_of}
 use Rattle.sc_load.specs.declared.load.Load.{Load}
 use Rattle.sc_history.specs.Changes.{Change, apply, goes, takes}
-use Rattle.sc_history.specs.Names.{scan_of, hull_of, is_empty, part_of}
+use Rattle.sc_history.specs.Names.{ArePartsOf, scan_of, hull_of, is_empty, part_of}
 use Rattle.sc_history.specs.History.{replay, comes, touches, makes, first_revision}
 use Rattle.sc_history.specs.Part.{Part, lookup, AreInOrder}
 
@@ -77,6 +77,12 @@ pub record ArePublished (past : List Change) (change : Change) (old new : List P
 -- the names of the parts that the change touched and that are there after it, in order
 abbrev pub touched_names : List Change → Change → List Part → List PartName
 touched_names past change new = filter (touches (replay past) change) (map (λ part. part.name) new)
+
+-- the same by the history alone: of the parts that there are after the change, those that it touched
+pub record AreTouched (past : List Change) (change : Change) (names : List PartName) : Type 0 where
+  pub all : List PartName
+  pub are : ArePartsOf (apply (replay past) change) all
+  pub names_are : names ≡ filter (touches (replay past) change) all
 
 -- the bounds of a name after a change, by the history and the bounds before: a name without items has none; where nothing comes they stay; they are the hull of
 -- what comes where the change makes the part, and else its join with them

@@ -9,6 +9,7 @@ use Rattle.sc_history.specs.Names.{part_of, is_empty, scan_of, hull_of}
 use Rattle.sc_history.specs.History.{replay, back, stamp}
 use Rattle.sc_history.specs.Part.{Part}
 use Rattle.sc_history.specs.Sound.{Stand}
+use Rattle.sc_history.specs.Taken.{IsPast}
 
 -- what contracts see of a snapshot
 pub record Snap : Type 0 where
@@ -21,6 +22,12 @@ pub record IsSnapshot (past : List Change) (snap : Snap) : Type 0 where
   pub reached : snap.revision ≤ length past
   pub collections_are : snap.collections ≡ (replay (back snap.revision past)).collections
   pub stand : Stand (back snap.revision past) snap.parts
+
+-- some history had it
+pub record Stood (snap : Snap) : Type 0 where
+  pub past : List Change
+  pub is : IsPast past
+  pub has : IsSnapshot past snap
 
 -- the load of this revision touched the part, and left it some items
 pub record IsStamp (past : List Change) (name : PartName) (revision : ℕ) : Type 0 where

@@ -26,11 +26,11 @@ ghost use Rattle.sc_history.specs.History.{replay, back, touches, stamp, birth, 
 ghost use Rattle.sc_history.specs.Refusals.{HasBadPatch, HasFault, HasFewCollections, HasFewParts, IsAccepted, IsAllowed, IsRefused, is_patch, plain_fault};
 ghost use Rattle.sc_history.specs.Taken.{IsPast, Tells};
 ghost use Rattle.sc_history.specs.Part.{Part, bounds_of, lookup};
-ghost use Rattle.sc_history.specs.Touch.{ArePublished, bounds_next, loses, touched};
-ghost use Rattle.sc_history.specs.Sound.{Sound, Stand, StandsAs};
+ghost use Rattle.sc_history.specs.Touch.{ArePublished, AreTouched, bounds_next, loses, touched, touched_names};
+ghost use Rattle.sc_history.specs.Sound.{CoversAll, Sound, Stand, StandsAs};
 ghost use Rattle.sc_history.specs.Installs.{AreInstalled, answer, answer_in, bounds_after, bounds_in};
 ghost use Rattle.sc_history.specs.declared.installed.Installed.TheVariants.{TooOld};
-ghost use Rattle.sc_history.specs.Views.{IsSnapshot, IsStamp, IsTicket, IsTight, Snap};
+ghost use Rattle.sc_history.specs.Views.{IsSnapshot, IsStamp, IsTicket, IsTight, Snap, Stood};
 ghost use Rattle.sc_history.specs.Example.{IsExample, april, march, one_a_revision, one_again, one_moved, scene};
 
 /// A history is told in one way: each load puts one list of items into the content before it, a patch too.
@@ -138,6 +138,14 @@ pub fn touched_parts()
         touched revision name (takes (DropCollection id)) [] part ≡ None }
 {}
 
+/// The names of the touched parts that stand after a load are told by the history alone, in one way.
+pub fn one_list_of_touched()
+    ensures are { (past : List Change) (change : Change) (old new : List Part) → IsPast past → IsAllowed (replay past) change → Stand past old →
+        ArePublished past change old new → AreTouched past change (touched_names past change new) }
+    ensures one { (past : List Change) (change : Change) (names others : List PartName) → AreTouched past change names →
+        AreTouched past change others → names ≡ others }
+{}
+
 /// The empty catalogue is sound.
 pub fn nothing_is_sound()
     ensures { Sound [] [] [] }
@@ -199,6 +207,24 @@ pub fn views_stay()
         IsTicket (newer ++ past) name stamp items }
     ensures tight { (newer past : List Change) (name : PartName) (stamp : ℕ) (hull : Extent) → IsTight past name stamp hull →
         IsTight (newer ++ past) name stamp hull }
+{}
+
+/// The bounds of a snapshot's parts cover their items, no two items of it have one name, and they are those of its revision.
+pub fn snapshots_cover()
+    ensures covers { (snap : Snap) → Stood snap → All (λ part. CoversAll part.bounds part.items) snap.parts }
+    ensures apart { (snap : Snap) → Stood snap → AreApart (flat_map (λ part. part.items) snap.parts) }
+    ensures items { (past : List Change) (snap : Snap) → IsPast past → IsSnapshot past snap →
+        IsPermutation (replay (back snap.revision past)).items (flat_map (λ part. part.items) snap.parts) }
+{}
+
+/// A longer history is told by what tells its beginning, with the changes of the later loads in front; and what was told up to
+/// a revision stays.
+pub fn longer_histories()
+    ensures split { (newer older : List Load) (past : List Change) → Tells (newer ++ older) past →
+        (later : List Change) × (before : List Change) × (past ≡ later ++ before) × Tells older before }
+    ensures length { (history : List Load) (past : List Change) → Tells history past → length past ≡ length history }
+    ensures back { (newer past : List Change) (revision : ℕ) → revision ≤ length past → back revision (newer ++ past) ≡ back revision past }
+    ensures whole { (past : List Change) → back (length past) past ≡ past }
 {}
 
 /// A ticket of an earlier part of the same name is too old for the part that stands, which was made after it.

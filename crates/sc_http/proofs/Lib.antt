@@ -5,3 +5,4 @@ pub mod Fronts
 pub mod Bodies
 pub mod Steps
 pub mod Whole
+pub mod Replies

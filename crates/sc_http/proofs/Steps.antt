@@ -10,7 +10,7 @@ use Rattle.sc_http.specs.declared.fault.HttpEnd.TheVariants.{Cut, BadHead, BadLe
 use Rattle.sc_http.specs.Requests.{BeginsWithRequest}
 use Rattle.sc_http.specs.declared.request.Request.{Request}
 use Rattle.sc_http.specs.Reading.{UnlessMemory}
-use Rattle.sc_http.specs.Intake.{Held, Takes, Lazily, Reads, IsUnfinished, IsUnfinishedHead, IsEnd, FirstOf, EndsOf}
+use Rattle.sc_http.specs.Intake.{Held, Takes, Counts, Lazily, Reads, IsUnfinished, IsUnfinishedHead, IsEnd, FirstOf, EndsOf}
 
 consumed_twice : (a b c : Option (List ℕ)) (x y : List ℕ) → Consumes a b x → Consumes b c y → Consumes a c (x ++ y)
 consumed_twice None b c x y p q = tt
@@ -159,3 +159,32 @@ still_open ended count b some e x =
     no_end : (ended t b : Bool) → t ≡ false → ended ≡ t && b → ended ≡ true → ⊥
     no_end ended true b f e x = cc
     no_end ended false b f e x = cc
+
+-- ---- what was counted, however it ended
+
+pub counts_same : (n : ℕ) (a : Option (List ℕ)) → Counts n n a a
+counts_same n a = record { taken = []; took = consumes_same a; counted = omega arith }
+
+pub counts_twice : (n m k : ℕ) (a b c : Option (List ℕ)) → Counts n m a b → Counts m k b c → Counts n k a c
+counts_twice n m k a b c s t = record {
+  taken = s.taken ++ t.taken;
+  took = consumed_twice a b c s.taken t.taken s.took t.took;
+  counted = omega (arith, s.counted, t.counted, length-append s.taken t.taken);
+}
+
+pub counts_takes : (old now : List ℕ) (n m : ℕ) (a b : Option (List ℕ)) → Takes old now n m a b → Counts n m a b
+counts_takes old now n m a b t = record { taken = t.taken; took = t.took; counted = t.counted }
+
+pub counts_reads : (old now : List ℕ) (n m : ℕ) (a b : Option (List ℕ)) → Reads old now n m a b → Counts n m a b
+counts_reads old now n m a b r = counts_takes old now n m a b r.takes
+
+pub counts_kept : (n m : ℕ) (a b c : Option (List ℕ)) → Counts n m a b → Keeps b c → Counts n m a c
+counts_kept n m a b c s k = counts_twice n m m a b c s (record { taken = []; took = keeps_none b c k; counted = omega arith })
+
+pub counts_end : (buf : List ℕ) (n m count : ℕ) (a b c : Option (List ℕ)) → Counts n m a b → Consumes b c (take count buf) → count ≡ 0 → Counts n m a c
+counts_end buf n m count a b c s k e =
+    counts_twice n m m a b c s (record { taken = []; took = subst (Consumes b c) (ap (λ v. take v buf) e) k; counted = omega arith })
+
+pub counts_more : (buf : List ℕ) (n m count : ℕ) (a b c : Option (List ℕ)) → Counts n m a b → Consumes b c (take count buf) → count ≤ length buf → Counts n (m + count) a c
+counts_more buf n m count a b c s k fits =
+    counts_twice n m (m + count) a b c s (record { taken = take count buf; took = k; counted = omega (arith, fits, length-take count buf) })

@@ -1,6 +1,6 @@
 -- Whole requests: there is one at most at a front, and more bytes keep it.
-use Rattle.std.proofs.Common.{◌≡◌, ◌≢◌, ℕ, Bool, List, [], ◌∷◌, ◌++◌, length, drop, get_or, refl, sym, ap, ◌∙◌, subst, arith, append_assoc, length-append, inl, inr, Result, Ok, Err}
-use Rattle.httparse.specs.Grammar.{RequestHead, NeverHasRequest}
+use Rattle.std.proofs.Common.{◌≡◌, ◌≢◌, ℕ, ◌<◌, Bool, List, [], ◌∷◌, ◌++◌, length, drop, get_or, refl, sym, ap, ◌∙◌, subst, arith, append_assoc, length-append, inl, inr, Result, Ok, Err}
+use Rattle.httparse.specs.Grammar.{RequestHead, NeverHasRequest, print_request}
 use Rattle.httparse.proofs.GrammarLemmas.{request_unique, ReadsRequest-append}
 use Rattle.sc_http.specs.declared.fault.HeadFault.{HeadFault}
 use Rattle.sc_http.specs.declared.fault.HeadFault.TheVariants.{Malformed, TooLarge}
@@ -66,6 +66,18 @@ begins_stays bytes more rest q x = (x.0, x.1, request_stays bytes more x.0 x.1 r
 pub go_on : (bytes rest taken next : List ℕ) (qs : List Request) (q : Request) → AreRequests bytes qs rest → BeginsWithRequest (rest ++ taken) q next → AreRequests (bytes ++ taken) (qs ++ q ∷ []) next
 go_on bytes rest taken next [] q x y = (next, subst (λ z. BeginsWithRequest (z ++ taken) q next) (sym x) y, refl)
 go_on bytes rest taken next (p ∷ qs) q x y = (x.0 ++ taken, begins_stays bytes taken x.0 p x.1, go_on x.0 rest taken next qs q x.2 y)
+
+pub are_stay : (bytes rest more : List ℕ) (qs : List Request) → AreRequests bytes qs rest → AreRequests (bytes ++ more) qs (rest ++ more)
+are_stay bytes rest more [] x = ap (λ z. z ++ more) x
+are_stay bytes rest more (q ∷ qs) x = (x.0 ++ more, begins_stays bytes more x.0 q x.1, are_stay x.0 rest more qs x.2)
+
+head_has_bytes : (h : RequestHead) → 0 < length (print_request h)
+unfolding print_request
+head_has_bytes h = simp length-append (omega arith)
+
+pub has_bytes : (bytes rest : List ℕ) (q : Request) → BeginsWithRequest bytes q rest → length rest < length bytes
+has_bytes bytes rest q x =
+    omega (arith, ap length x.2.head.reads.1, length-append (print_request x.0) (x.1 ++ rest), length-append x.1 rest, head_has_bytes x.0)
 
 -- ---- ends
 

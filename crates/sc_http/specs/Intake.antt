@@ -67,6 +67,12 @@ pub record Takes (old now : List ℕ) (count count' : ℕ) (left next : Option (
   pub took : Consumes left next taken
   pub counted : count' ≡ count + length taken
 
+-- bytes were taken of the source, and they were counted
+pub record Counts (count count' : ℕ) (left next : Option (List ℕ)) : Type 0 where
+  pub taken : List ℕ
+  pub took : Consumes left next taken
+  pub counted : count' ≡ count + length taken
+
 -- nothing was taken; or before the last bytes, at most 8,192, were taken, the request wasn't whole
 abbrev pub Lazily : List ℕ → List ℕ → Type 0
 Lazily old taken =

@@ -1,5 +1,5 @@
 -- The bytes of replies (RFC 9112, sections 4 and 6.2; RFC 9110, section 15).
-use Rattle.std.specs.Prelude.{ℕ, Bool, ◌||◌, ◌==◌, List, [], ◌∷◌, ◌++◌, length, codes, decimal, Option, Some, None, if◌then◌else◌}
+use Rattle.std.specs.Prelude.{ℕ, ◌+◌, Bool, ◌||◌, ◌==◌, List, [], ◌∷◌, ◌++◌, length, codes, decimal, Option, Some, None, if◌then◌else◌}
 use Rattle.sc_http.specs.declared.reply.Reply.{Reply}
 
 -- the statuses of the replies that have a revision
@@ -59,6 +59,14 @@ abbrev pub reply_bytes : Reply → List ℕ
 reply_bytes r =
     status_line r.status ++ type_text r.geo ++ length_text ++ decimal (length r.body) ++ revision_text ++ decimal r.revision
     ++ allow_line r.allow ++ close_line r.close ++ end_text ++ r.body
+
+abbrev pub list_length : Option (List ℕ) → ℕ
+list_length None = 0
+list_length (Some list) = length list
+
+-- what a reply's length depends on but for a bounded head: the bytes of its body and of its list of methods
+abbrev pub size_of : Reply → ℕ
+size_of r = length r.body + list_length r.allow
 
 -- the whole reply to want of memory
 unfoldable pub unavailable_bytes : List ℕ

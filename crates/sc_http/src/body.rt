@@ -1,5 +1,5 @@
 ghost use Rattle.std.specs.Prelude.{◌≡◌, ◌+◌, ◌<◌, ◌≤◌, ◌^◌, length, IfOk, IfErr, OnOk};
-ghost use Rattle.sc_http.specs.Intake.{Takes};
+ghost use Rattle.sc_http.specs.Intake.{Counts, Takes};
 ghost use Rattle.sc_http.specs.Reading.{BodyEnds, BodyStaysOpen};
 
 use crate::fault::HttpEnd;
@@ -9,6 +9,7 @@ use std::alloc::Global;
 
 /// A body of that length behind a head of so many bytes: what of it is held, and the rest as it comes. Nothing behind it
 /// is read. The total counts the bytes that were taken of the connection.
+#[tactic(auto, using(crate::proofs::Steps::counts_same, crate::proofs::Steps::counts_twice, crate::proofs::Steps::counts_takes, crate::proofs::Steps::counts_reads, crate::proofs::Steps::counts_kept, crate::proofs::Steps::counts_end, crate::proofs::Steps::counts_more))]
 pub fn body_of<S: Source>(
     alloc: Global,
     head: usize,
@@ -24,6 +25,7 @@ pub fn body_of<S: Source>(
     ensures len { IfOk result (λ body. length body.items ≡ len) }
     ensures end { IfErr result (λ e. BodyEnds e head held.now len total.old total.new (S.left source.old) (S.left source.new) (S.ended source.new) (S.faults source.old) (S.faults source.new)) }
     ensures limit { total.new ≤ 2 ^ 40 }
+    ensures counted { Counts total.old total.new (S.left source.old) (S.left source.new) }
     ensures open { BodyStaysOpen result (S.ended source.old) (S.ended source.new) }
     ensures later { S.faults source.old ≤ S.faults source.new }
 {
@@ -37,6 +39,7 @@ pub fn body_of<S: Source>(
 }
 
 /// Reads on until a body has its length.
+#[tactic(auto, using(crate::proofs::Steps::counts_same, crate::proofs::Steps::counts_twice, crate::proofs::Steps::counts_takes, crate::proofs::Steps::counts_reads, crate::proofs::Steps::counts_kept, crate::proofs::Steps::counts_end, crate::proofs::Steps::counts_more))]
 fn fill<S: Source>(
     head: usize,
     body: &mut Vec<u8>,
@@ -51,6 +54,7 @@ fn fill<S: Source>(
     ensures len { OnOk result (length body.new.items ≡ len) }
     ensures end { IfErr result (λ e. BodyEnds e head body.old.items len total.old total.new (S.left source.old) (S.left source.new) (S.ended source.new) (S.faults source.old) (S.faults source.new)) }
     ensures limit { total.new ≤ 2 ^ 40 }
+    ensures counted { Counts total.old total.new (S.left source.old) (S.left source.new) }
     ensures open { BodyStaysOpen result (S.ended source.old) (S.ended source.new) }
     ensures later { S.faults source.old ≤ S.faults source.new }
 {

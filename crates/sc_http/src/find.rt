@@ -1,5 +1,5 @@
 ghost use Rattle.std.specs.Prelude.{◌≡◌, ◌<◌, ◌≤◌, ◌^◌, ℕ, Bool, true, length, drop};
-ghost use Rattle.sc_http.specs.Intake.{IsUnfinishedHead, Reads, StaysOpen};
+ghost use Rattle.sc_http.specs.Intake.{Counts, IsUnfinishedHead, Reads, StaysOpen};
 ghost use Rattle.sc_http.specs.Reading.{FindsHead, IsMeasured, UnlessMemory};
 
 use crate::fault::{HeadFault, HttpEnd};
@@ -12,6 +12,7 @@ use std::alloc::Global;
 
 /// The head at a place of the held bytes, read on as far as none is held, or `None` where the input ends before it. All
 /// bytes stay held. The total counts the bytes that were taken of the connection.
+#[tactic(auto, using(crate::proofs::Steps::counts_same, crate::proofs::Steps::counts_twice, crate::proofs::Steps::counts_takes, crate::proofs::Steps::counts_reads, crate::proofs::Steps::counts_kept, crate::proofs::Steps::counts_end, crate::proofs::Steps::counts_more))]
 pub fn find_head<S: Source>(
     alloc: Global,
     held: &mut Vec<u8>,
@@ -25,6 +26,7 @@ pub fn find_head<S: Source>(
     ensures found { FindsHead result (drop at held.new.items) total.new (S.ended source.new) (S.faults source.old) (S.faults source.new) }
     ensures within { at ≤ length held.new.items }
     ensures limit { total.new ≤ 2 ^ 40 }
+    ensures counted { Counts total.old total.new (S.left source.old) (S.left source.new) }
     ensures open { StaysOpen result (S.ended source.old) (S.ended source.new) }
     ensures later { S.faults source.old ≤ S.faults source.new }
 {
@@ -41,6 +43,7 @@ pub fn find_head<S: Source>(
 }
 
 /// The same where no head is held yet and the held bytes were counted.
+#[tactic(auto, using(crate::proofs::Steps::counts_same, crate::proofs::Steps::counts_twice, crate::proofs::Steps::counts_takes, crate::proofs::Steps::counts_reads, crate::proofs::Steps::counts_kept, crate::proofs::Steps::counts_end, crate::proofs::Steps::counts_more))]
 fn read_on<S: Source>(
     alloc: Global,
     held: &mut Vec<u8>,
@@ -57,6 +60,7 @@ fn read_on<S: Source>(
     ensures found { FindsHead result (drop at held.new.items) total.new (S.ended source.new) (S.faults source.old) (S.faults source.new) }
     ensures within { at ≤ length held.new.items }
     ensures limit { total.new ≤ 2 ^ 40 }
+    ensures counted { Counts total.old total.new (S.left source.old) (S.left source.new) }
     ensures open { StaysOpen result (S.ended source.old) (S.ended source.new) }
     ensures later { S.faults source.old ≤ S.faults source.new }
 {

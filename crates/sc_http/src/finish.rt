@@ -1,5 +1,5 @@
 ghost use Rattle.std.specs.Prelude.{◌≡◌, ◌≤◌, ◌^◌, length, drop, IfOk, IfErr};
-ghost use Rattle.sc_http.specs.Intake.{EndsOf, FirstOf};
+ghost use Rattle.sc_http.specs.Intake.{Counts, EndsOf, FirstOf};
 ghost use Rattle.sc_http.specs.Reading.{BeginsWith, BodyStaysOpen};
 
 use crate::body::body_of;
@@ -13,6 +13,7 @@ use sc_outside::Source;
 use std::alloc::Global;
 
 /// The request of a head that is held, and how many of the held bytes are its.
+#[tactic(auto, using(crate::proofs::Steps::counts_same, crate::proofs::Steps::counts_twice, crate::proofs::Steps::counts_takes, crate::proofs::Steps::counts_reads, crate::proofs::Steps::counts_kept, crate::proofs::Steps::counts_end, crate::proofs::Steps::counts_more))]
 pub fn finish<S: Source>(
     alloc: Global,
     held: &[u8],
@@ -26,6 +27,7 @@ pub fn finish<S: Source>(
     ensures within { IfOk result (λ r. r.1 ≤ length held.now) }
     ensures err { IfErr result (λ e. EndsOf e held.now total.old total.new (S.left source.old) (S.left source.new) (S.ended source.new) (S.faults source.old) (S.faults source.new)) }
     ensures limit { total.new ≤ 2 ^ 40 }
+    ensures counted { Counts total.old total.new (S.left source.old) (S.left source.new) }
     ensures open { BodyStaysOpen result (S.ended source.old) (S.ended source.new) }
     ensures later { S.faults source.old ≤ S.faults source.new }
 {

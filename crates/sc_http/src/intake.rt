@@ -1,5 +1,5 @@
 ghost use Rattle.std.specs.Prelude.{◌≡◌, ◌≤◌, ◌^◌, length, IfOk};
-ghost use Rattle.sc_http.specs.Intake.{Answers, StaysOpen, nothing_held};
+ghost use Rattle.sc_http.specs.Intake.{Answers, Counts, StaysOpen, nothing_held};
 
 use crate::fault::HttpEnd;
 use crate::next::next;
@@ -60,6 +60,8 @@ impl Intake {
         source: &mut S,
     ) -> Result<Option<Request>, HttpEnd>
         ensures next { Answers result self.old self.new (S.left source.old) (S.left source.new) (S.ended source.new) (S.faults source.old) (S.faults source.new) }
+        ensures counted { Counts self.old.taken self.new.taken (S.left source.old) (S.left source.new) }
+        ensures few { self.new.taken ≤ 2 ^ 40 }
         ensures open { StaysOpen result (S.ended source.old) (S.ended source.new) }
         ensures later { S.faults source.old ≤ S.faults source.new }
     {

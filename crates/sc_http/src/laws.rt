@@ -1,6 +1,6 @@
 //! Laws of requests, for those who follow a connection: each is the contract of a function that does nothing.
 
-ghost use Rattle.std.specs.Prelude.{◌≡◌, ◌≢◌, ◌++◌, ◌∷◌, [], ℕ, List, Bool, Err};
+ghost use Rattle.std.specs.Prelude.{◌≡◌, ◌≢◌, ◌<◌, ◌++◌, ◌∷◌, [], ℕ, List, Bool, Err, length};
 ghost use Rattle.httparse.specs.Grammar.{RequestHead, NeverHasRequest};
 ghost use Rattle.sc_http.specs.Requests.{HasHead, HasNoHead, HasNoWhole, BeginsWithRequest, AreRequests, Requests, length_in};
 ghost use Rattle.sc_http.specs.Intake.{IsBadHead, IsEnd, IsUnfinished};
@@ -25,6 +25,16 @@ pub fn one_list_of_requests()
 /// one after the other are those of all bytes that it took.
 pub fn requests_go_on()
     ensures { (bytes rest taken next : List ℕ) (qs : List Request) (q : Request) → AreRequests bytes qs rest → BeginsWithRequest (rest ++ taken) q next → AreRequests (bytes ++ taken) (qs ++ q ∷ []) next }
+{}
+
+/// The requests at the front of bytes stay so with further bytes behind them.
+pub fn requests_stay()
+    ensures { (bytes rest more : List ℕ) (qs : List Request) → AreRequests bytes qs rest → AreRequests (bytes ++ more) qs (rest ++ more) }
+{}
+
+/// A request has bytes: behind it there are fewer than before it.
+pub fn request_has_bytes()
+    ensures { (bytes rest : List ℕ) (q : Request) → BeginsWithRequest bytes q rest → length rest < length bytes }
 {}
 
 /// Where requests end, but for want of memory, there is no whole request.

@@ -25,6 +25,6 @@ mod tests;
 pub use fault::{HeadFault, HttpEnd, LengthFault};
 pub use headers::find_header;
 pub use intake::Intake;
-pub use reply::{Reply, ReplyFault, unavailable_reply, write_reply};
+pub use reply::{Reply, ReplyFault, ReplyRoom, unavailable_reply, write_reply, write_reply_in};
 pub use request::{Header, Request};
 pub use sc_base::{Seq, Text};

@@ -1,6 +1,6 @@
 ghost use Rattle.std.specs.Prelude.{◌<◌};
 
-use crate::{HeadFault, HttpEnd, Intake, LengthFault, Reply, Request, write_reply};
+use crate::{HeadFault, HttpEnd, Intake, LengthFault, Reply, ReplyRoom, Request, write_reply};
 use sc_base::{Seq, Text};
 use sc_outside::{Failed, MemSink, MemSource, Source};
 use std::alloc::{AllocError, Global};
@@ -300,5 +300,22 @@ fn replies_are_written(rt: HostRuntime) -> Result<(), AllocError> {
     };
     assert_eq!(rt; write_reply(alloc, &mut sink, &refusal), Ok(()));
     assert_eq!(rt; sink.bytes(), NO_METHOD_REPLY.as_bytes());
+    Ok(())
+}
+
+#[test]
+fn a_reply_needs_no_memory_but_its_room(rt: HostRuntime) -> Result<(), AllocError> {
+    let alloc = rt.alloc();
+    let room = ReplyRoom::new(alloc, 11)?;
+    let refusal = Reply {
+        status: 405,
+        geo: false,
+        revision: u64::MAX,
+        close: true,
+        allow: Some(Text::from_str(alloc, "GET, POST")?),
+        body: Text::from_str(alloc, "{}")?,
+    };
+    let text = room.text(&refusal);
+    assert_eq!(rt; text.bytes(), NO_METHOD_REPLY.as_bytes());
     Ok(())
 }

@@ -7,3 +7,4 @@ pub mod PatchGood
 pub mod Lines
 pub mod Excluding
 pub mod Telling
+pub mod Crossing

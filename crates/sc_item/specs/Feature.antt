@@ -5,6 +5,7 @@ use Rattle.sc_json.specs.Compact.{compact}
 use Rattle.sc_json.specs.Good.{Good}
 use Rattle.sc_geom.specs.declared.point.Pt.{Pt}
 use Rattle.sc_geom.specs.Shapes.{Shapes, positions_of}
+use Rattle.sc_geom.specs.Geometry.{IsGeometry}
 use Rattle.sc_geom.specs.Rectangle.{Rectangle, IsSmallest}
 
 -- `start` and `end` are nanoseconds from 1970-01-01T00:00:00Z
@@ -25,8 +26,14 @@ IsPlaceOf None (Some r) = ⊥
 IsPlaceOf (Some g) None = ⊥
 IsPlaceOf (Some g) (Some r) = IsSmallest r (positions_of g)
 
--- what every item keeps: its place is the box of its geometry, its tree is good, and its document is the tree's compact text
+-- what stands as a geometry is one
+abbrev pub IsShaped : Option (Shapes Pt) → Type 0
+IsShaped None = Unit {0}
+IsShaped (Some g) = IsGeometry g
+
+-- what every item keeps: its geometry is one and its place is the box of it, its tree is good, and its document is the tree's compact text
 pub record IsKept (item : Feature) : Type 0 where
+  pub shaped : IsShaped item.geom
   pub place : IsPlaceOf item.geom item.place
   pub good : Good item.tree
   pub doc : item.doc ≡ compact item.tree

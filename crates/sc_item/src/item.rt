@@ -97,7 +97,7 @@ impl Item {
         })
     }
 
-    /// The collection's id, of 1 to 256 bytes.
+    /// The collection's id.
     pub fn collection(&self) -> &Text
         ensures { result.now ≡ self.now.collection }
     {
@@ -139,6 +139,7 @@ impl Item {
     pub fn place(&self) -> Option<GridBox>
         ensures place { result ≡ self.now.place }
         ensures smallest { IsPlaceOf self.now.geom self.now.place }
+        ensures kept { IsKept self.now }
     {
         self.place
     }

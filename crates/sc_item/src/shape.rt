@@ -1,7 +1,7 @@
 ghost use Rattle.std.specs.Prelude.{◌≡◌};
 ghost use Rattle.sc_json.specs.Member.{member_value};
 ghost use Rattle.sc_item.specs.Words.{geometry_name};
-ghost use Rattle.sc_item.specs.Feature.{IsPlaceOf};
+ghost use Rattle.sc_item.specs.Feature.{IsPlaceOf, IsShaped};
 ghost use Rattle.sc_item.specs.Shape.{Shaped};
 
 use crate::fault::ItemFault;
@@ -33,10 +33,15 @@ pub(crate) fn shape_of(alloc: Global, tree: &Json) -> Result<Option<Geom>, ItemF
 
 /// The smallest box of a geometry.
 pub(crate) fn place_of(geom: &Option<Geom>) -> Option<GridBox>
-    ensures { IsPlaceOf geom.now result }
+    ensures place { IsPlaceOf geom.now result }
+    ensures shaped { IsShaped geom.now }
 {
     match geom {
-        Some(geom) => Some(box_of(geom)),
+        Some(geom) => {
+            // Every geometry is one.
+            let _points = geom.points();
+            Some(box_of(geom))
+        }
         None => None,
     }
 }

@@ -1,5 +1,7 @@
 -- What the reader answers, in the words of the format.
-use Rattle.std.proofs.Common.{◌≡◌, ℕ, List, Result, Ok, Err, refl, sym, ◌∙◌, IsUtf8}
+use Rattle.std.proofs.Common.{◌≡◌, ◌⊎◌, inl, inr, ℕ, Bool, true, false, List, Result, Ok, Err, refl, sym, ◌∙◌, IsUtf8}
+use Rattle.std.specs.Str.{is_utf8}
+use Rattle.std.proofs.lemmas.Str.{IsUtf8-from_is_utf8, is_utf8-from_IsUtf8}
 use Rattle.std.specs.Str.Lossy.{utf8_valid_len}
 use Rattle.sc_json.specs.declared.tree.Json.{Json}
 use Rattle.sc_json.specs.declared.fault.JsonFault.{JsonFault}
@@ -43,17 +45,17 @@ fault_excludes bytes f tree h s = differ (sym (spells_read bytes tree s) ∙ tex
     differ : Same (Ok tree) (Err f) → ⊥
     differ e = absurd cc
 
--- and a text that spells none has one
-pub data Judged (bytes : List ℕ) : Type 0 where
-  good : (tree : Json) → Spells bytes tree → Judged bytes
-  faulty : (f : JsonFault) → JsonFaultOf bytes f → Judged bytes
-
-pub every_text : (bytes : List ℕ) → IsUtf8 bytes → Judged bytes
-every_text bytes u = go (read_of bytes) refl
+-- and bytes that spell none have one
+pub tree_or_fault : (bytes : List ℕ) → ((tree : Json) × Spells bytes tree) ⊎ ((fault : JsonFault) × JsonFaultOf bytes fault)
+tree_or_fault bytes = whole (is_utf8 bytes) refl
   where
-    go : (r : Result Json JsonFault) → read_of bytes ≡ r → Judged bytes
-    go (Ok tree) e = good tree (read_spells bytes tree e)
-    go (Err f) e = faulty f (fault_of_text bytes f u e)
+    read : IsUtf8 bytes → (r : Result Json JsonFault) → read_of bytes ≡ r → ((tree : Json) × Spells bytes tree) ⊎ ((fault : JsonFault) × JsonFaultOf bytes fault)
+    read u (Ok tree) e = inl (tree, read_spells bytes tree e)
+    read u (Err f) e = inr (f, fault_of_text bytes f u e)
+
+    whole : (b : Bool) → is_utf8 bytes ≡ b → ((tree : Json) × Spells bytes tree) ⊎ ((fault : JsonFault) × JsonFaultOf bytes fault)
+    whole true e = read (IsUtf8-from_is_utf8 bytes e) (read_of bytes) refl
+    whole false e = inr (NotUtf8 (utf8_valid_len bytes), cut_is bytes (λ u. absurd (let t = is_utf8-from_IsUtf8 bytes u in cc)))
 
 -- ---- answers
 

@@ -4,3 +4,4 @@ pub mod Places
 pub mod Cuts
 pub mod Reading
 pub mod Patching
+pub mod Crossing

@@ -43,6 +43,13 @@ impl MemListen {
             faults: 0,
         })
     }
+
+    /// The connections that were handed back, in their order. Takes no memory.
+    pub fn into_handed_back(self) -> Seq<(MemSource, MemSink)>
+        ensures { result ≡ connections_back self }
+    {
+        Seq::of(self.handed_back)
+    }
 }
 
 impl Listen for MemListen {

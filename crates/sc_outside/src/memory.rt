@@ -1,4 +1,4 @@
-ghost use Rattle.std.specs.Prelude.{◌≡◌, ◌≤◌, ◌+◌, ◌<◌, take, drop, min, Contains, IfOk, IsErr, ◌↔◌, ◌⊎◌, Some, [], vec_len, vec_capacity, ◌-◌, ◌^◌, OnErr, length};
+ghost use Rattle.std.specs.Prelude.{◌≡◌, ◌≤◌, ◌+◌, ◌<◌, take, drop, min, Contains, IfOk, IsErr, ◌↔◌, ◌⊎◌, Some, [], vec_len, vec_capacity, ◌-◌, ◌^◌, OnErr, length, false};
 
 use crate::{Failed, Seq, Sink, Source};
 use std::alloc::{AllocError, Global};
@@ -27,7 +27,7 @@ pub struct MemSource {
 }
 
 impl MemSource {
-    ghost use Rattle.sc_outside.specs.Memory.{source_left, source_failing, source_calls, source_faults};
+    ghost use Rattle.sc_outside.specs.Memory.{source_left, source_failing, source_calls, source_faults, source_ended};
 
     /// A source of these bytes, none of which was read.
     pub fn new(bytes: Seq<u8>, failing: Seq<u64>) -> MemSource
@@ -35,6 +35,7 @@ impl MemSource {
         ensures failing { source_failing result ≡ failing }
         ensures calls { source_calls result ≡ 0 }
         ensures faults { source_faults result ≡ 0 }
+        ensures ended { source_ended result ≡ false }
     {
         MemSource {
             bytes,

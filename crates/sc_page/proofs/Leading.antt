@@ -13,7 +13,7 @@ take_twice zero xs = refl
 take_twice (suc k) [] = refl
 take_twice (suc k) (x ∷ xs) = ap (λ t. x ∷ t) (take_twice k xs)
 
-take_of_more : {X : Type 0} (k : ℕ) (xs : List X) → take k (take (suc k) xs) ≡ take k xs
+pub take_of_more : {X : Type 0} (k : ℕ) (xs : List X) → take k (take (suc k) xs) ≡ take k xs
 take_of_more zero xs = refl
 take_of_more (suc k) [] = refl
 take_of_more (suc k) (x ∷ xs) = ap (λ t. x ∷ t) (take_of_more k xs)

@@ -151,10 +151,10 @@ filter_every [] = refl
 filter_every (x ∷ xs) = ap (λ t. x ∷ t) (filter_every xs)
 
 -- what is cut from the listing of all the items is their page
-pub page_from_listing : (limit : ℕ) (xs ys page : List Feature) → IsListing default_order xs ys → page ≡ take limit ys → IsFlatPage every_item default_order limit xs page
-page_from_listing limit xs ys page l e = record {
+pub page_from_listing : (order : Feature → Feature → Ordering) (limit : ℕ) (xs ys page : List Feature) → IsListing order xs ys → page ≡ take limit ys → IsFlatPage every_item order limit xs page
+page_from_listing order limit xs ys page l e = record {
   listed = ys;
-  is_listing = subst (λ t. IsListing default_order t ys) (sym (filter_every xs)) l;
+  is_listing = subst (λ t. IsListing order t ys) (sym (filter_every xs)) l;
   cut = e;
 }
 

@@ -37,7 +37,7 @@ fn last_of_full(page: &[PageItem], limit: usize) -> Option<&PageItem>
 
 /// Whether an item may stand on a page: on each that isn't full, and else where it doesn't come after the page's last.
 fn may_stand(last: Option<&PageItem>, item: &Item) -> bool
-    ensures { result ≡ may_stand (option_map (λ i. i.now) last.entry) item.now }
+    ensures { result ≡ may_stand default_order (option_map (λ i. i.now) last.entry) item.now }
 {
     match last {
         None => true,

@@ -1,4 +1,4 @@
-use crate::{PageSoFar, page_text};
+use crate::{PageSoFar, bare_page_text};
 use sc_item::{Item, first_repeat, read_line};
 use std::alloc::{AllocError, Global};
 use std::test::Fail;
@@ -32,7 +32,7 @@ fn a_page_has_the_latest_items(rt: HostRuntime) -> Result<(), Fail> {
     }
     let page = so_far.into_items()?;
     assert_eq!(rt;
-        page_text(alloc, page.as_slice())?.as_str(),
+        bare_page_text(alloc, page.as_slice())?.as_str(),
         "{\"type\":\"FeatureCollection\",\"features\":[{\"type\":\"Feature\",\"collection\":\"s2\",\"id\":\"a\",\"geometry\":null,\"properties\":{\"datetime\":\"2024-01-02T00:00:00Z\"}},{\"type\":\"Feature\",\"collection\":\"s2\",\"id\":\"b\",\"geometry\":null,\"properties\":{\"datetime\":\"2024-01-02T00:00:00Z\"}}],\"numberReturned\":2,\"links\":[]}"
     );
     Ok(())

@@ -6,14 +6,14 @@ use sc_base::Text;
 use std::alloc::{AllocError, Global};
 
 #[tactic(auto, unfolding(crate::specs::Page::page_start))]
-fn start_text() -> &'static str
+pub(crate) fn start_text() -> &'static str
     ensures { result.now ≡ page_start }
 {
     "{\"type\":\"FeatureCollection\",\"features\":["
 }
 
 #[tactic(auto, unfolding(crate::specs::Page::page_middle))]
-fn middle_text() -> &'static str
+pub(crate) fn middle_text() -> &'static str
     ensures { result.now ≡ page_middle }
 {
     "],\"numberReturned\":"
@@ -50,7 +50,7 @@ fn push_documents(text: &mut String, items: &[PageItem]) -> Result<(), AllocErro
 }
 
 /// The text of the page of these items without links: the documents between commas, and their number.
-pub fn page_text(alloc: Global, page: &[PageItem]) -> Result<Text, AllocError>
+pub fn bare_page_text(alloc: Global, page: &[PageItem]) -> Result<Text, AllocError>
     ensures { IfOk result (λ text. text ≡ bare_page_text page.now) }
 {
     let mut text = String::from_str(alloc, start_text())?;

@@ -15,6 +15,7 @@ use Rattle.sqlite_keyed.specs.Lists.{sort_by}
 use Rattle.sqlite_keyed.proofs.ListLemmas.{map-map}
 use Rattle.sqlite_keyed.proofs.SortLemmas.{IsPermutation-sort_by}
 use Rattle.sc_item.specs.Feature.{Feature}
+use Rattle.sc_item.specs.Feature as features
 use Rattle.sc_item.specs.Names.{HaveOneName, AreApart}
 use Rattle.sc_cut.specs.declared.name.PartName.{PartName}
 use Rattle.sc_part.specs.Entry.{id_at, ids_of}
@@ -125,8 +126,9 @@ module _ (name : PartName) (gone : List (List ℕ)) (come items : List Feature) 
       ∙ sorted_alike scan_order scan_total (after gone come items) (sort_by scan_order come ++ filter (λ i. not (is_among gone i.id)) items) (no_ties _ own_after)
       (IsPermutation-append_left _ _ _ (IsPermutation-sym _ _ (IsPermutation-sort_by scan_order scan_total come)))
 
-  pub kept_after : (stamp : ℕ) (merged : List Feature) → merged ≡ scan_of (after gone come items) → IsKept (record { name = name; stamp = stamp; items = merged })
-  kept_after stamp merged is = subst (λ l. IsKept (record { name = name; stamp = stamp; items = l })) (sym is) (record {
+  pub kept_after : (stamp : ℕ) (merged : List Feature) → merged ≡ scan_of (after gone come items) → All features.IsKept merged → IsKept (record { name = name; stamp = stamp; items = merged })
+  kept_after stamp merged is each = subst (λ l. IsKept (record { name = name; stamp = stamp; items = l })) (sym is) (record {
+    each = subst (All features.IsKept) is each;
     fits = All-permutation (Fits name) _ _ scan_after.same fits_after;
     apart = apart_in_any_order _ _ scan_after.same apart;
     ordered = scan_after.ordered;

@@ -5,7 +5,7 @@ use Rattle.std.specs.declared.sync.Arc.{Arc}
 use Rattle.std.specs.Arc.{arc_value}
 use Rattle.std.specs.List.{All}
 use Rattle.std.proofs.lemmas.List.{map-append}
-use Rattle.std.proofs.lemmas.List.Elements.{All-nil, All-cons, All-head, All-tail, All-append, All-push, All-weaker}
+use Rattle.std.proofs.lemmas.List.Elements.{All-nil, All-cons, All-head, All-tail, All-append, All-filter, All-push, All-weaker}
 use Rattle.std.proofs.lemmas.List.Sorted.{All-permutation, IsPermutation-sym, IsPermutation-map}
 use Rattle.std.proofs.lemmas.List.Sums.{fold-append}
 use Rattle.sqlite_keyed.proofs.ListLemmas.{map-map}
@@ -50,6 +50,14 @@ value_push b w rs r e f = f ∙ ap (λ t. join_of t (only r)) e ∙ sym (fold-ap
 -- the reaches of the first shared items
 pub reaches_more : (items : List (Arc Feature Global)) (i : ℕ) (a : Arc Feature Global) → i < length items → a ≡ get_or items i a → take (i + 1) (map reach (shared items)) ≡ take i (map reach (shared items)) ++ reach (arc_value a) ∷ []
 reaches_more items i a lt is = rw (map-map reach arc_value items) (taken_of (λ x. reach (arc_value x)) items i a lt is)
+
+-- the first shared items, one more
+pub each_more : (P : Feature → Type 0) (items : List (Arc Feature Global)) (i : ℕ) (a : Arc Feature Global) → i < length items → a ≡ get_or items i a → All P (take i (shared items)) → P (arc_value a) → All P (take (i + 1) (shared items))
+each_more P items i a lt is all own = subst (All P) (sym (taken_of arc_value items i a lt is)) (All-push P (take i (shared items)) (arc_value a) all own)
+
+-- what holds of all that were there and of all that come holds of all that are left
+pub each_joined : (P : Feature → Type 0) (gone : List (List ℕ)) (come old items : List Feature) → All P old → All P come → IsPermutation (after gone come old) items → All P items
+each_joined P gone come old items was comes same = All-permutation P (after gone come old) items same (All-append P come _ comes (All-filter (λ i. not (is_among gone i.id)) P old was))
 
 -- where no id is gone all items stay
 pub all_stay : (gone : List (List ℕ)) (items : List Feature) → length gone ≡ 0 → filter (λ i. not (is_among gone i.id)) items ≡ items

@@ -4,4 +4,6 @@ mod Places
 mod Merging
 mod Hulls
 mod Indexing
-mod Changing
+pub mod Changing
+pub mod Boxes
+pub mod Crossing

@@ -1,5 +1,5 @@
-ghost use Rattle.std.specs.Prelude.{◌≡◌, List, map, IsPermutation};
-ghost use Rattle.sc_item.specs.Feature.{Feature};
+ghost use Rattle.std.specs.Prelude.{◌≡◌, All, List, map, IsPermutation};
+ghost use Rattle.sc_item.specs.Feature.{Feature, IsKept};
 ghost use Rattle.sc_bounds.specs.Sets.{IsHull, hull};
 ghost use Rattle.sc_part.specs.Scan.{after, reach, shared};
 
@@ -10,7 +10,8 @@ use std::sync::Arc;
 
 /// Where an item lies in time and space.
 pub fn reach_of(item: &Item) -> Reach
-    ensures { result ≡ reach item.now }
+    ensures reach { result ≡ reach item.now }
+    ensures kept { IsKept item.now }
 {
     Reach {
         start: item.start(),
@@ -19,10 +20,12 @@ pub fn reach_of(item: &Item) -> Reach
     }
 }
 
-/// The smallest bounds that cover the reaches of all items; those of no item are empty. Takes no memory.
+/// The smallest bounds that cover the reaches of all items, each of which keeps what items keep; those of no item are
+/// empty. Takes no memory.
 pub fn hull_of_items(items: &[Arc<Item>]) -> Bounds
     ensures hull { IsHull result (map reach (shared items.now)) }
     ensures value { result ≡ hull (map reach (shared items.now)) }
+    ensures kept { All IsKept (shared items.now) }
 {
     let mut bounds = Bounds::empty();
     for item in items {
@@ -38,7 +41,8 @@ pub(crate) fn hull_after(
     come: &[Arc<Item>],
     items: &[Arc<Item>],
 ) -> Bounds
-    ensures { (old : List Feature) → IsHull before.now (map reach old) → IsPermutation (after gone.now (shared come.now) old) (shared items.now) → IsHull result (map reach (shared items.now)) }
+    ensures hull { (old : List Feature) → IsHull before.now (map reach old) → IsPermutation (after gone.now (shared come.now) old) (shared items.now) → IsHull result (map reach (shared items.now)) }
+    ensures kept { (old : List Feature) → All IsKept old → IsPermutation (after gone.now (shared come.now) old) (shared items.now) → All IsKept (shared items.now) }
 {
     // Without those that went the hull may be smaller, which only the others tell.
     if gone.is_empty() {

@@ -1,7 +1,8 @@
 //! What follows from the definitions alone. Each function has an empty body: its clause is the law.
 ghost use Rattle.std.specs.Prelude.{◌≡◌, All, IsPermutation, List};
 ghost use Rattle.sc_cut.specs.declared.name.PartName.{PartName as Name};
-ghost use Rattle.sc_item.specs.Feature.{Feature};
+ghost use Rattle.sc_bounds.specs.Places.{IsPlace};
+ghost use Rattle.sc_item.specs.Feature.{Feature, IsKept};
 ghost use Rattle.sc_item.specs.Names.{AreApart};
 ghost use Rattle.sc_part.specs.Scan.{Fits, HaveOwnIds, IsScan, scan_of};
 
@@ -23,4 +24,9 @@ pub fn own_ids()
 /// Items that have names of their own have them in any order.
 pub fn apart_in_any_order()
     ensures { (items other : List Feature) → IsPermutation items other → AreApart items → AreApart other }
+{}
+
+/// The place of an item is a box of the world's grid.
+pub fn places_are_boxes()
+    ensures { (item : Feature) → IsKept item → IsPlace item.place }
 {}

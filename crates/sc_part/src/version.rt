@@ -2,7 +2,7 @@ ghost use Rattle.std.specs.Prelude.{◌≡◌, ◌+◌, [], map, find, option_ma
 ghost use Rattle.std.specs.Str.{bytes_eq};
 ghost use Rattle.std.specs.Arc.{arc_value};
 ghost use Rattle.sc_item.specs.Names.{AreApart};
-ghost use Rattle.sc_bounds.specs.Sets.{IsHull};
+ghost use Rattle.sc_bounds.specs.Sets.{IsHull, hull};
 ghost use Rattle.sc_part.specs.Scan.{Fits, IsScan, after, reach, scan_of, shared};
 ghost use Rattle.sc_part.specs.Version.{IsKept};
 
@@ -110,8 +110,11 @@ impl PartVersion {
 
     /// The smallest bounds that cover all items. They are kept, so this takes no time.
     pub fn hull(&self) -> Bounds
-        ensures { IsHull result (map reach self.now.items) }
+        ensures hull { IsHull result (map reach self.now.items) }
+        ensures value { result ≡ hull (map reach self.now.items) }
     {
+        // All bounds are in order.
+        let _place = self.hull.place();
         self.hull
     }
 

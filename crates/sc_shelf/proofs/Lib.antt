@@ -10,3 +10,4 @@ pub mod Finding
 pub mod Publishing
 pub mod Alone
 pub mod Standing
+pub mod Crossing

@@ -1,4 +1,3 @@
-pub mod Boxes
 pub mod Shelf
 pub mod Changed
 pub mod Kept

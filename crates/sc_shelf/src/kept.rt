@@ -1,5 +1,6 @@
 ghost use Rattle.std.specs.Prelude.{◌≡◌, length, IfOk};
 ghost use Rattle.std.specs.Str.{bytes_eq};
+ghost use Rattle.sc_part.specs.Version.{IsKept};
 ghost use Rattle.sc_shelf.specs.Shelf.{part_of};
 ghost use Rattle.sc_shelf.specs.Ticket.{version_of};
 
@@ -40,6 +41,7 @@ impl Model for KeptPart {
 
     ghost coded = { Prim.hlevel (codes, e.the_row.coded) };
 
+    ghost use Rattle.sc_part.specs.Version.{IsKept};
     ghost use Rattle.sc_shelf.specs.Shelf.{part_of};
 
     ghost view = { λ k. part_of (arc_value k.inner) };
@@ -78,11 +80,16 @@ impl KeptPart {
         self.name().collection == *collection
     }
 
-    /// The part's version, which has its items.
+    /// The part's version, which has its items: each keeps what items keep, as a geometry that is one, and a place that is
+    /// its box.
     pub fn version(&self) -> &PartVersion
-        ensures { result.now ≡ version_of self.now }
+        ensures version { result.now ≡ version_of self.now }
+        ensures kept { IsKept (version_of self.now) }
     {
-        self.inner.version.get()
+        let version = self.inner.version.get();
+        // Every version is kept.
+        let _name = version.name();
+        version
     }
 
     /// Bounds that cover all items of the part.

@@ -5,7 +5,6 @@
 mod change;
 mod collections;
 mod find;
-mod hull;
 mod install;
 mod kept;
 pub mod laws;

@@ -2,6 +2,7 @@ ghost use Rattle.std.specs.Prelude.{◌≡◌, ◌+◌, ◌-◌, ◌^◌, ◌++�
 ghost use Rattle.std.specs.Arc.{arc_value};
 ghost use Rattle.sc_part.specs.Scan.{shared};
 ghost use Rattle.sc_history.specs.Content.{is_called, item_in};
+ghost use Rattle.sc_history.specs.Views.{Stood};
 ghost use Rattle.sc_shelf.specs.Kept.{all_items};
 ghost use Rattle.sc_shelf.specs.Ticket.{version_of};
 
@@ -22,7 +23,7 @@ use std::sync::Arc;
 use std::sync::ledger::Ledger;
 
 /// What a catalogue had at a revision: its collections and its parts, which never change in it. It has one pointer to each
-/// of the two lists. Contracts see it as a `Snap`.
+/// of the two lists. Contracts see it as a `Snap`, and some history had it.
 #[derive(Drop)]
 pub struct Snapshot {
     revision: u64,
@@ -39,7 +40,11 @@ impl Model for Snapshot {
 
     ghost coded = { Prim.hlevel (codes, e.the_row.coded) };
 
+    ghost use Rattle.sc_history.specs.Views.{Stood};
+
     ghost view = { λ s. record { revision = s.revision; collections = s.collections; parts = s.parts } };
+
+    ghost invariant = { λ s. Stood (record { revision = s.revision; collections = s.collections; parts = s.parts }) };
 }
 
 /// Puts pointers to the same items at the end.
@@ -64,8 +69,9 @@ fn count_items(parts: &[KeptPart]) -> u64
 }
 
 impl Snapshot {
-    /// A snapshot of a revision that has these collections and parts.
+    /// The snapshot of a revision at which a history had these collections and parts.
     pub fn of(revision: u64, collections: Collections, parts: Parts) -> Snapshot
+        requires { Stood (record { revision = revision; collections = collections; parts = parts }) }
         ensures { result ≡ record { revision = revision; collections = collections; parts = parts } }
     {
         Snapshot {
@@ -75,9 +81,10 @@ impl Snapshot {
         }
     }
 
-    /// The number of loads that the catalogue had taken.
+    /// The number of loads that the catalogue had taken. The clause `stood` is what every snapshot keeps.
     pub fn revision(&self) -> u64
-        ensures { result ≡ self.now.revision }
+        ensures revision { result ≡ self.now.revision }
+        ensures stood { Stood self.now }
     {
         self.revision
     }
@@ -151,6 +158,13 @@ impl Snapshot {
         ensures { result ≡ length self.now.parts }
     {
         self.parts.len() as u64
+    }
+
+    /// The parts in the order of their names.
+    pub fn parts(&self) -> &[KeptPart]
+        ensures { result.now ≡ self.now.parts }
+    {
+        self.parts.as_slice()
     }
 
     /// The part at a place in the order of names, with its bounds; none past the end.

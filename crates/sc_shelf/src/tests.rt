@@ -1,13 +1,9 @@
-ghost use Rattle.std.specs.Prelude.{◌≡◌, ◌<◌};
-
-use crate::{Collections, Cut, Installed, PartChange, PartName, Parts, Seq, Snapshot, Steps, Text};
+use crate::{Collections, Cut, Installed, PartChange, PartName, Parts, Seq, Text};
 use sc_item::read_line;
 use sc_json::Json;
 use sc_part::fits;
 use std::alloc::{AllocError, Global};
-use std::marker::Brand;
 use std::sync::Arc;
-use std::sync::ledger::{Blank, Ledger};
 use std::test::Fail;
 
 const WEST: &[u8] =
@@ -40,20 +36,6 @@ fn scene_of_2024(alloc: Global, line: &[u8]) -> Result<Option<Parts>, AllocError
     Ok(Some(Parts::new(alloc)?.with_changes(alloc, 2, &changes)?))
 }
 
-/// The number of the items that a snapshot hands out.
-fn items_of<L: Ledger>(
-    alloc: Global,
-    snapshot: &Snapshot,
-    blank: Blank,
-) -> Result<usize, AllocError>
-    requires name { blank.name ≡ L.name }
-    requires parts { blank.parts ≡ L.parts }
-    requires some { 0 < blank.parts }
-{
-    let mut steps = Steps::<L>::new(blank);
-    Ok(snapshot.items(alloc, &mut steps)?.as_slice().len())
-}
-
 #[test]
 fn a_part_is_found(rt: HostRuntime) -> Result<(), Fail> {
     let parts = scene_of_2024(rt.alloc(), WEST)?.ok_or("no parts")?;
@@ -61,28 +43,6 @@ fn a_part_is_found(rt: HostRuntime) -> Result<(), Fail> {
     assert_eq!(rt; part.version().stamp(), 2);
     assert_eq!(rt; part.version().len(), 1);
     assert_eq!(rt; parts.find(&year(rt.alloc(), 2023)?).is_none(), true);
-    Ok(())
-}
-
-#[test]
-fn an_item_is_found(rt: HostRuntime) -> Result<(), Fail> {
-    let parts = scene_of_2024(rt.alloc(), WEST)?.ok_or("no parts")?;
-    let snapshot = Snapshot::of(2, Collections::new(rt.alloc())?, parts);
-    let s2 = Text::from_str(rt.alloc(), "s2")?;
-    let a = Text::from_str(rt.alloc(), "a")?;
-    assert_eq!(rt; snapshot.find(&s2, &a).is_some(), true);
-    assert_eq!(rt; snapshot.find(&a, &s2).is_none(), true);
-    Ok(())
-}
-
-#[test]
-fn all_are_handed_out(rt: HostRuntime) -> Result<(), Fail> {
-    let parts = scene_of_2024(rt.alloc(), WEST)?.ok_or("no parts")?;
-    let snapshot = Snapshot::of(2, Collections::new(rt.alloc())?, parts);
-    assert_eq!(rt; snapshot.item_count(), 1);
-    assert_eq!(rt; items_of::<Brand>(rt.alloc(), &snapshot, Blank::new(1))?, 1);
-    assert_eq!(rt; snapshot.part(0).is_some(), true);
-    assert_eq!(rt; snapshot.part(1).is_none(), true);
     Ok(())
 }
 
@@ -108,17 +68,5 @@ fn a_collection_goes(rt: HostRuntime) -> Result<(), Fail> {
     let one = none.with(rt.alloc(), &s2, Cut::Year, &Json::Null)?;
     assert_eq!(rt; one.find(&s2).is_some(), true);
     assert_eq!(rt; one.without(rt.alloc(), &s2)?.len(), 0);
-    Ok(())
-}
-
-#[test]
-fn a_collection_is_described(rt: HostRuntime) -> Result<(), Fail> {
-    let s2 = Text::from_str(rt.alloc(), "s2")?;
-    let none = Collections::new(rt.alloc())?;
-    let one = none.with(rt.alloc(), &s2, Cut::Year, &Json::Null)?;
-    let snapshot = Snapshot::of(1, one, Parts::new(rt.alloc())?);
-    assert_eq!(rt; snapshot.cut_of(&s2), Some(Cut::Year));
-    assert_eq!(rt; snapshot.collection(&s2).is_some(), true);
-    assert_eq!(rt; snapshot.collections(rt.alloc())?.as_slice().len(), 1);
     Ok(())
 }

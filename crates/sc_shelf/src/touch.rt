@@ -7,19 +7,17 @@ ghost use Rattle.sc_history.specs.Changes.{is_among};
 ghost use Rattle.sc_history.specs.History.{first_revision};
 ghost use Rattle.sc_history.specs.Names.{Fits, scan_of};
 ghost use Rattle.sc_history.specs.Touch.{made, renewed, stamped, unless_empty, widened};
-ghost use Rattle.sc_shelf.specs.Boxes.{AreBoxed};
 ghost use Rattle.sc_shelf.specs.Changed.{IsChangeOf, changed, come_by};
 ghost use Rattle.sc_shelf.specs.Shelf.{part_of};
 
 use crate::change::PartChange;
-use crate::hull::hull_of_boxes;
 use crate::kept::{KeptPart, Shelf};
 use crate::version::SharedVersion;
 use sc_bounds::{Bounds, join};
 use sc_cut::PartName;
 use sc_history::Addition;
 use sc_item::Item;
-use sc_part::PartVersion;
+use sc_part::{PartVersion, hull_of_items};
 use std::alloc::{AllocError, Global};
 use std::sync::Arc;
 
@@ -72,7 +70,7 @@ fn make(
     }
     let none = PartVersion::empty(alloc, name.try_clone(alloc)?);
     let version = none.with_changes(alloc, revision, &[], come)?;
-    let hull = hull_of_boxes(come);
+    let hull = hull_of_items(come);
     let shelf = Shelf {
         version: SharedVersion::of(alloc, version)?,
         bounds: hull,
@@ -136,10 +134,9 @@ fn renewed_shelf(
 ) -> Result<Shelf, AllocError>
     requires name { version.name ≡ old.now.version.name }
     requires stamp { version.stamp ≡ revision }
-    requires boxed { AreBoxed (shared come.now) → AreBoxed version.items }
     ensures { IfOk result (λ shelf. part_of shelf ≡ widened revision (shared come.now) (stamped revision version.items (part_of old.now))) }
 {
-    let hull = hull_of_boxes(come);
+    let hull = hull_of_items(come);
     let version = SharedVersion::of(alloc, version)?;
     if come.is_empty() {
         with_version(alloc, old, version)

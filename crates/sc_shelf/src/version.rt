@@ -1,6 +1,5 @@
 ghost use Rattle.std.specs.Prelude.{◌≡◌, IfOk};
 ghost use Rattle.sc_history.specs.Names.{hull_of};
-ghost use Rattle.sc_shelf.specs.Boxes.{AreBoxed};
 
 use sc_bounds::Bounds;
 use sc_part::PartVersion;
@@ -8,7 +7,7 @@ use std::alloc::{AllocError, Global};
 use std::marker::Model;
 use std::sync::Arc;
 
-/// A version of a part that is shared by pointer, which contracts see as the version. The places of its items are boxes.
+/// A version of a part that is shared by pointer, which contracts see as the version.
 #[derive(Drop)]
 pub(crate) struct SharedVersion {
     inner: Arc<PartVersion>,
@@ -17,7 +16,6 @@ pub(crate) struct SharedVersion {
 impl Model for SharedVersion {
     ghost use Rattle.std.specs.Arc.{arc_value};
     ghost use Rattle.sc_part.specs.Version.{Version};
-    ghost use Rattle.sc_shelf.specs.Boxes.{AreBoxed};
     ghost use Rattle.std.specs.Coded.{codes};
     ghost use Rattle.sc_json.specs.contracts.tree.Json as e;
 
@@ -26,14 +24,11 @@ impl Model for SharedVersion {
     ghost coded = { Prim.hlevel (codes, e.the_row.coded) };
 
     ghost view = { λ s. arc_value s.inner };
-
-    ghost invariant = { λ s. AreBoxed (arc_value s.inner).items };
 }
 
 impl SharedVersion {
     /// The version, to be shared.
     pub fn of(alloc: Global, version: PartVersion) -> Result<SharedVersion, AllocError>
-        requires { AreBoxed version.items }
         ensures { IfOk result (λ s. s ≡ version) }
     {
         Ok(SharedVersion {
@@ -52,8 +47,7 @@ impl SharedVersion {
 
     /// The version itself.
     pub fn get(&self) -> &PartVersion
-        ensures value { result.now ≡ self.now }
-        ensures boxed { AreBoxed self.now.items }
+        ensures { result.now ≡ self.now }
     {
         &self.inner
     }
@@ -62,9 +56,6 @@ impl SharedVersion {
     pub fn hull(&self) -> Bounds
         ensures { result ≡ hull_of self.now.items }
     {
-        let hull = self.inner.hull();
-        // All bounds are in order.
-        let _place = hull.place();
-        hull
+        self.inner.hull()
     }
 }

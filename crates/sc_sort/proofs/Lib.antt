@@ -1,3 +1,4 @@
 pub mod Commas
 pub mod Orders
 pub mod Ties
+pub mod Prefixes

@@ -15,15 +15,15 @@ use Rattle.sc_sort.specs.Keys.{Keys, IsKept}
 use Rattle.sc_sort.specs.Order.{value_order, order_by, there, first_there, others, values_order, keys_order, AreTied, AllTied}
 use Rattle.sc_sort.proofs.Orders.{value_total, order_by_total}
 
-then_tie : (o p : Ordering) → ordering_then o p ≡ Equal → (o ≡ Equal) × (p ≡ Equal)
+pub then_tie : (o p : Ordering) → ordering_then o p ≡ Equal → (o ≡ Equal) × (p ≡ Equal)
 then_tie Less p e = cc
 then_tie Equal p e = (refl, e)
 then_tie Greater p e = cc
 
-number_tie : (x y : ℕ) → nat_cmp x y ≡ Equal → x ≡ y
+pub number_tie : (x y : ℕ) → nat_cmp x y ≡ Equal → x ≡ y
 number_tie x y e = by_ranked (x < y) (x ≡ y) (y < x) (nat_cmp x y) (ranked x y (nat_cmp x y) refl) (λ l _. cc (l, e)) (λ _ h. h) (λ g _. cc (g, e))
 
-text_tie : (a b : List ℕ) → text_order a b ≡ Equal → a ≡ b
+pub text_tie : (a b : List ℕ) → text_order a b ≡ Equal → a ≡ b
 text_tie [] [] e = refl
 text_tie [] (y ∷ ys) e = cc
 text_tie (x ∷ xs) [] e = cc
@@ -33,7 +33,7 @@ text_tie (x ∷ xs) (y ∷ ys) e =
     let u : xs ≡ ys = text_tie xs ys t.1 in
     cc
 
-value_tie : (a b : SortValue) → value_order a b ≡ Equal → AreTied (Some a) (Some b)
+pub value_tie : (a b : SortValue) → value_order a b ≡ Equal → AreTied (Some a) (Some b)
 value_tie (value.Number a) (value.Number b) e = e
 value_tie (value.Moment a) (value.Moment b) e = ap (λ t. Some (value.Moment t)) (int_equal a b e)
 value_tie (value.Text a) (value.Text b) e = ap (λ t. Some (value.Text t)) (text_tie a b e)

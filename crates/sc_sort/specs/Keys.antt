@@ -1,5 +1,6 @@
 -- What an item is ordered by: a value for each key of a sort, then its collection and its id.
-use Rattle.std.specs.Prelude.{ℕ, Bool, true, List, length, nat_le, IsUtf8}
+use Rattle.std.specs.Prelude.{ℕ, Bool, true, List, length, nat_le, IsUtf8, All}
+use Rattle.std.specs.List.{AllPass}
 use Rattle.sc_decimal.specs.Number.{IsDec}
 use Rattle.sc_time.specs.Instant.{IsInstant}
 use Rattle.sc_sort.specs.declared.value.SortValue.{SortValue}
@@ -25,3 +26,10 @@ IsKept (Number number) = IsDec number
 IsKept (Text text) = IsUtf8 text
 IsKept (Truth truth) = Unit {0}
 IsKept Absent = Unit {0}
+
+-- what every key list keeps: short texts, values that there are, and names in UTF-8
+pub record AreKept (keys : Keys) : Type 0 where
+  pub short : AllPass is_short keys.values
+  pub values : All IsKept keys.values
+  pub collection : IsUtf8 keys.collection
+  pub id : IsUtf8 keys.id

@@ -1,13 +1,12 @@
 -- What a sort is: its keys, of which there are 1 to 4.
-use Rattle.std.specs.Prelude.{◌≤◌, Bool, ◌||◌, List, length, nat_eq}
-use Rattle.std.specs.Cmp.Lexicographic.{pointwise}
+use Rattle.std.specs.Prelude.{◌≤◌, Bool, List, length}
 use Rattle.sc_sort.specs.declared.key.Key.{Key}
-use Rattle.sc_sort.specs.Words.{datetime_name, full_datetime_name}
+use Rattle.sc_sort.specs.Named.{named, is_time}
 
 pub record IsSort (keys : List Key) : Type 0 where
   pub some : 1 ≤ length keys
   pub few : length keys ≤ 4
 
--- the key is the time of an item, which has two names
+-- the key is the time of an item, and so has a moment for every item
 abbrev pub is_of_time : Key → Bool
-is_of_time key = pointwise nat_eq key.name datetime_name || pointwise nat_eq key.name full_datetime_name
+is_of_time key = is_time (named key.name)

@@ -2,7 +2,8 @@ ghost use Rattle.std.specs.Prelude.{◌≡◌, ◌∷◌, [], true, IfOk};
 ghost use Rattle.sc_sort.specs.Spec.{IsSort, is_of_time};
 ghost use Rattle.sc_sort.specs.Words.{datetime_name};
 
-use crate::words::{datetime_name, full_datetime_name};
+use crate::names::{is_time, named};
+use crate::words::datetime_name;
 use sc_base::Text;
 use std::alloc::{AllocError, Global};
 use std::marker::Model;
@@ -23,8 +24,7 @@ impl Key {
     pub fn is_of_time(&self) -> bool
         ensures { result ≡ is_of_time self.now }
     {
-        let name = self.name.as_str();
-        name == datetime_name() || name == full_datetime_name()
+        is_time(&named(self.name.as_str()))
     }
 }
 

@@ -1,6 +1,6 @@
-ghost use Rattle.std.specs.Prelude.{◌≡◌, ◌↔◌, SomeIff, IsTrue};
+ghost use Rattle.std.specs.Prelude.{◌≡◌, ◌↔◌, All, SomeIff, IsTrue};
 ghost use Rattle.std.specs.List.{AllPass};
-ghost use Rattle.sc_sort.specs.Keys.{is_short};
+ghost use Rattle.sc_sort.specs.Keys.{is_short, IsKept, AreKept};
 
 use crate::value::SortValue;
 use sc_base::{Seq, Text};
@@ -16,14 +16,13 @@ pub struct KeyList {
 }
 
 impl Model for KeyList {
-    ghost use Rattle.std.specs.List.{AllPass};
-    ghost use Rattle.sc_sort.specs.Keys.{Keys, is_short};
+    ghost use Rattle.sc_sort.specs.Keys.{Keys, AreKept};
 
     ghost Value = { Keys };
 
     ghost view = { λ k. record { values = k.values; collection = k.collection; id = k.id } };
 
-    ghost invariant = { λ k. AllPass is_short k.values };
+    ghost invariant = { λ k. AreKept (record { values = k.values; collection = k.collection; id = k.id }) };
 }
 
 /// Whether no value is a text of more than 128 bytes.
@@ -33,12 +32,24 @@ fn are_short(values: &[SortValue]) -> bool
     values.iter().all(|value| value.is_short())
 }
 
+/// What the values keep, told for all of them. It computes nothing.
+fn values_keep(values: &[SortValue])
+    ensures { All IsKept values.now }
+{
+    for value in values {
+        value.keeps();
+    }
+}
+
 impl KeyList {
     /// The key list of these values, this collection and this id; none exactly where one of the values is a text of
     /// more than 128 bytes. Takes no memory.
     pub fn of(values: Seq<SortValue>, collection: Text, id: Text) -> Option<KeyList>
         ensures { SomeIff result (AllPass is_short values) (record { values = values; collection = collection; id = id }) }
     {
+        values_keep(values.as_slice());
+        collection.bytes();
+        id.bytes();
         if are_short(values.as_slice()) {
             Some(KeyList {
                 values,
@@ -50,10 +61,11 @@ impl KeyList {
         }
     }
 
-    /// A value for each key, of which no text has more than 128 bytes.
+    /// A value for each key, of which no text has more than 128 bytes, and what every key list keeps.
     pub fn values(&self) -> &[SortValue]
         ensures values { result.now ≡ self.now.values }
         ensures short { AllPass is_short self.now.values }
+        ensures kept { AreKept self.now }
     {
         self.values.as_slice()
     }

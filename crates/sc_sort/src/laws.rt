@@ -1,17 +1,12 @@
 //! What follows from the definitions alone. Each function has an empty body: its clause is the law.
-ghost use Rattle.std.specs.Prelude.{◌≡◌, ◌⊎◌, ℕ, List, length, Result, Ok, Err};
+ghost use Rattle.std.specs.Prelude.{◌≡◌, List, length};
 ghost use Rattle.std.specs.Cmp.{IsTotalOrder};
-ghost use Rattle.std.specs.List.{AllPass};
 ghost use Rattle.std.specs.Prelude.{All};
 ghost use Rattle.std.specs.declared.cmp.Ordering.TheVariants.{Less, Equal};
 ghost use Rattle.std.specs.Ordering.{ordering_reverse};
-ghost use Rattle.sc_json.specs.declared.tree.Json.{Json};
 ghost use Rattle.sc_sort.specs.declared.key.Key.{Key};
-ghost use Rattle.sc_sort.specs.declared.fault.SortFault.{SortFault};
-ghost use Rattle.sc_sort.specs.declared.fault.SortFault.TheVariants.{OutOfMemory};
 ghost use Rattle.sc_sort.specs.Keys.{Keys, IsKept};
 ghost use Rattle.sc_sort.specs.Order.{keys_order, AllTied};
-ghost use Rattle.sc_sort.specs.Sorts.{Answers, sort_of_text, sort_of_tree};
 
 /// The order of key lists under any sort is total: each list ties with itself, turning two round turns their order
 /// round, and what comes before a second that comes before a third comes before the third.
@@ -33,10 +28,4 @@ pub fn ties_are_of_one_name()
 /// Key lists that tie are the same, where they have a value for each key and their numbers are those that are kept.
 pub fn ties_are_the_same()
     ensures { (sort : List Key) (a b : Keys) → length a.values ≡ length sort → length b.values ≡ length sort → All IsKept a.values → All IsKept b.values → keys_order sort a b ≡ Equal → a ≡ b }
-{}
-
-/// A text and a tree have one sort, or one fault.
-pub fn one_sort()
-    ensures of_text { (text : List ℕ) (one other : Result (List Key) SortFault) → Answers one (sort_of_text text) → Answers other (sort_of_text text) → (one ≡ Err OutOfMemory) ⊎ ((other ≡ Err OutOfMemory) ⊎ (one ≡ other)) }
-    ensures of_tree { (tree : Json) (one other : Result (List Key) SortFault) → Answers one (sort_of_tree tree) → Answers other (sort_of_tree tree) → (one ≡ Err OutOfMemory) ⊎ ((other ≡ Err OutOfMemory) ⊎ (one ≡ other)) }
 {}

@@ -6,6 +6,7 @@ mod fault;
 mod key;
 mod key_list;
 pub mod laws;
+mod names;
 mod part;
 #[cfg(test)]
 mod tests;
@@ -18,6 +19,7 @@ pub use compare::compare_keys;
 pub use fault::SortFault;
 pub use key::{Key, SortSpec, default_sort};
 pub use key_list::KeyList;
+pub use names::{Queryable, named};
 pub use sc_base::{Seq, Text};
 pub use sc_decimal::Dec;
 pub use sc_json::Json;

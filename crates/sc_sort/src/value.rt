@@ -1,5 +1,5 @@
 ghost use Rattle.std.specs.Prelude.{◌≡◌};
-ghost use Rattle.sc_sort.specs.Keys.{is_short};
+ghost use Rattle.sc_sort.specs.Keys.{is_short, IsKept};
 
 use sc_base::Text;
 use sc_decimal::Dec;
@@ -27,6 +27,24 @@ impl SortValue {
         match self {
             SortValue::Text(text) => text.len() <= LONGEST_TEXT,
             _ => true,
+        }
+    }
+
+    /// What a value keeps. It computes nothing.
+    pub(crate) fn keeps(&self)
+        ensures { IsKept self.now }
+    {
+        match self {
+            SortValue::Moment(at) => {
+                at.nanoseconds();
+            }
+            SortValue::Number(number) => {
+                number.neg();
+            }
+            SortValue::Text(text) => {
+                text.bytes();
+            }
+            SortValue::Truth(_) | SortValue::Absent => {}
         }
     }
 }

@@ -1,5 +1,5 @@
 ghost use Rattle.std.specs.Prelude.{◌≡◌};
-ghost use Rattle.sc_sort.specs.Words.{datetime_name, full_datetime_name, field_name, direction_name, ascending_word, descending_word};
+ghost use Rattle.sc_sort.specs.Words.{datetime_name, id_name, collection_name, geometry_name, properties_prefix, field_name, direction_name, ascending_word, descending_word};
 
 #[tactic(auto, unfolding(crate::specs::Words::datetime_name))]
 pub(crate) fn datetime_name() -> &'static str
@@ -8,11 +8,32 @@ pub(crate) fn datetime_name() -> &'static str
     "datetime"
 }
 
-#[tactic(auto, unfolding(crate::specs::Words::full_datetime_name))]
-pub(crate) fn full_datetime_name() -> &'static str
-    ensures { result.now ≡ full_datetime_name }
+#[tactic(auto, unfolding(crate::specs::Words::id_name))]
+pub(crate) fn id_name() -> &'static str
+    ensures { result.now ≡ id_name }
 {
-    "properties.datetime"
+    "id"
+}
+
+#[tactic(auto, unfolding(crate::specs::Words::collection_name))]
+pub(crate) fn collection_name() -> &'static str
+    ensures { result.now ≡ collection_name }
+{
+    "collection"
+}
+
+#[tactic(auto, unfolding(crate::specs::Words::geometry_name))]
+pub(crate) fn geometry_name() -> &'static str
+    ensures { result.now ≡ geometry_name }
+{
+    "geometry"
+}
+
+#[tactic(auto, unfolding(crate::specs::Words::properties_prefix))]
+pub(crate) fn properties_prefix() -> &'static str
+    ensures { result.now ≡ properties_prefix }
+{
+    "properties."
 }
 
 #[tactic(auto, unfolding(crate::specs::Words::field_name))]

@@ -20,7 +20,8 @@ use Rattle.sc_sort.specs.Keys.{Keys, IsKept}
 use Rattle.sc_sort.specs.Spec.{is_of_time}
 use Rattle.sc_token.specs.Token.{tree_of, trees_of}
 use Rattle.sc_token.specs.Fits.{FitsKey, FitKeys, FitsSort}
-use Rattle.sc_token.proofs.Decimals.{number_literal, number_kept, moment_literal, moment_kept, moment_one, number_read}
+use Rattle.sc_json.proofs.CanonicalLiterals.{number_literal}
+use Rattle.sc_token.proofs.Decimals.{number_kept, moment_literal, moment_kept, moment_one, number_read}
 
 -- ---- what they spell is good
 

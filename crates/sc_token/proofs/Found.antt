@@ -8,10 +8,10 @@ use Rattle.sc_json.specs.declared.tree.Json.{Json}
 use Rattle.sc_json.specs.declared.tree.Json.TheVariants as trees
 use Rattle.sc_sort.specs.declared.value.SortValue.{SortValue}
 use Rattle.sc_sort.specs.declared.key.Key.{Key}
-use Rattle.sc_sort.specs.Keys.{Keys, IsKept, is_short}
+use Rattle.sc_sort.specs.Keys.{Keys, IsKept, AreKept, is_short}
 use Rattle.sc_sort.specs.Spec.{is_of_time}
 use Rattle.sc_token.specs.Token.{tree_of, trees_of, token_of}
-use Rattle.sc_token.specs.Fits.{FitKeys, FitsSort, AreKept, IsName}
+use Rattle.sc_token.specs.Fits.{FitKeys, FitsSort, IsName}
 use Rattle.sc_token.specs.Steps.{AreOfKinds, ReadsValue, ReadsName, ReadsKeys, AddsValues, AreInForm, IsOfLength}
 use Rattle.sc_token.specs.Reading.{IsOfList, IsTokenOf, HasOtherKind}
 use Rattle.sc_token.proofs.Fitting.{same_head, same_tail, values_of_trees, names_of_trees}

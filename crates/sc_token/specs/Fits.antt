@@ -1,5 +1,5 @@
 -- Which key lists fit a sort.
-use Rattle.std.specs.Prelude.{◌≡◌, ℕ, ◌≤◌, Bool, true, false, List, [], ◌∷◌, length, IsUtf8, All}
+use Rattle.std.specs.Prelude.{◌≡◌, ℕ, ◌≤◌, Bool, true, false, List, [], ◌∷◌, length, IsUtf8}
 use Rattle.sc_sort.specs.declared.value.SortValue.{SortValue}
 use Rattle.sc_sort.specs.declared.value.SortValue.TheVariants.{Moment, Number, Text, Truth, Absent}
 use Rattle.sc_sort.specs.declared.key.Key.{Key}
@@ -12,12 +12,6 @@ is_moment (Number number) = false
 is_moment (Text text) = false
 is_moment (Truth truth) = false
 is_moment Absent = false
-
--- values that there are, and names in UTF-8
-pub record AreKept (keys : Keys) : Type 0 where
-  pub values : All IsKept keys.values
-  pub collection : IsUtf8 keys.collection
-  pub id : IsUtf8 keys.id
 
 -- a key of time has a moment, and no other key has one; a text has at most 128 bytes
 pub record FitsKey (of_time : Bool) (value : SortValue) : Type 0 where

@@ -1,13 +1,10 @@
 //! Key lists as compact JSON lists.
-ghost use Rattle.std.specs.Prelude.{◌≡◌, ◌++◌, ◌∷◌, [], IfOk, OnOk, All, string_bytes};
+ghost use Rattle.std.specs.Prelude.{◌≡◌, ◌++◌, ◌∷◌, [], IfOk, OnOk, string_bytes};
 ghost use Rattle.std.specs.List.{flat_map};
 ghost use Rattle.std.specs.Fmt.{signed_decimal};
-ghost use Rattle.sc_time.specs.Instant.{IsInstant};
-ghost use Rattle.sc_decimal.specs.Number.{IsDec};
 ghost use Rattle.sc_decimal.specs.Literal.{literal_of};
 ghost use Rattle.sc_json.specs.Compact.{compact};
-ghost use Rattle.sc_sort.specs.Keys.{IsKept};
-ghost use Rattle.sc_token.specs.Fits.{AreKept};
+ghost use Rattle.sc_sort.specs.Keys.{AreKept};
 ghost use Rattle.sc_token.specs.Token.{tree_of, list_text};
 
 use itoa::Buffer;
@@ -20,8 +17,7 @@ const ROOM: usize = 128;
 
 /// Adds the nanoseconds of a moment.
 fn push_moment(out: &mut String, at: Instant) -> Result<(), AllocError>
-    ensures text { OnOk result (string_bytes out.new ≡ string_bytes out.old ++ signed_decimal at) }
-    ensures kept { IsInstant at }
+    ensures { OnOk result (string_bytes out.new ≡ string_bytes out.old ++ signed_decimal at) }
 {
     let mut buffer = Buffer::new();
     out.push_str(buffer.format(at.nanoseconds()))
@@ -30,8 +26,7 @@ fn push_moment(out: &mut String, at: Instant) -> Result<(), AllocError>
 /// Adds the canonical literal of a number.
 #[tactic(auto, unfolding(sc_decimal::specs::Literal::literal_of))]
 fn push_number(out: &mut String, number: &Dec) -> Result<(), AllocError>
-    ensures text { OnOk result (string_bytes out.new ≡ string_bytes out.old ++ literal_of number.now) }
-    ensures kept { IsDec number.now }
+    ensures { OnOk result (string_bytes out.new ≡ string_bytes out.old ++ literal_of number.now) }
 {
     let mut buffer = Buffer::new();
     if number.neg() {
@@ -48,8 +43,7 @@ fn push_number(out: &mut String, number: &Dec) -> Result<(), AllocError>
 /// Adds the compact JSON of a value.
 #[tactic(auto, unfolding(sc_json::specs::Compact::compact))]
 fn push_value(out: &mut String, value: &SortValue) -> Result<(), AllocError>
-    ensures text { OnOk result (string_bytes out.new ≡ string_bytes out.old ++ compact (tree_of value.now)) }
-    ensures kept { OnOk result (IsKept value.now) }
+    ensures { OnOk result (string_bytes out.new ≡ string_bytes out.old ++ compact (tree_of value.now)) }
 {
     match value {
         SortValue::Moment(at) => push_moment(out, *at),
@@ -63,8 +57,7 @@ fn push_value(out: &mut String, value: &SortValue) -> Result<(), AllocError>
 
 /// Adds the compact JSON of each value and a comma behind it.
 fn push_values(out: &mut String, values: &[SortValue]) -> Result<(), AllocError>
-    ensures text { OnOk result (string_bytes out.new ≡ string_bytes out.old ++ flat_map (λ v. compact (tree_of v) ++ 44 ∷ []) values.now) }
-    ensures kept { OnOk result (All IsKept values.now) }
+    ensures { OnOk result (string_bytes out.new ≡ string_bytes out.old ++ flat_map (λ v. compact (tree_of v) ++ 44 ∷ []) values.now) }
 {
     for value in values {
         push_value(out, value)?;

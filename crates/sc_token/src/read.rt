@@ -3,7 +3,7 @@ ghost use Rattle.sc_json.specs.declared.tree.Json.{Json as Tree};
 ghost use Rattle.sc_json.specs.declared.tree.Json.TheVariants as trees;
 ghost use Rattle.sc_json.specs.Spells.{Spells};
 ghost use Rattle.sc_token.specs.Faults.{IsNoList, fault_for};
-ghost use Rattle.sc_token.specs.Fits.{AreKept};
+ghost use Rattle.sc_sort.specs.Keys.{AreKept};
 ghost use Rattle.sc_token.specs.Token.{token_of};
 ghost use Rattle.sc_token.specs.Reading.{Answers};
 

@@ -1,5 +1,5 @@
 ghost use Rattle.std.specs.Prelude.{◌≡◌, IfOk};
-ghost use Rattle.sc_token.specs.Fits.{AreKept};
+ghost use Rattle.sc_sort.specs.Keys.{AreKept};
 ghost use Rattle.sc_token.specs.Token.{token_of};
 
 use crate::digits::into_digits;

@@ -1,5 +1,5 @@
 use Rattle.std.proofs.Common.{ℕ, Option, sym, ap, subst, ◌∙◌}
-use Rattle.sc_cqlread.specs.declared.fault.CqlFault.{CqlFault}
+use Rattle.sc_expr.specs.declared.fault.CqlFault.{CqlFault}
 use Rattle.sc_cqlread.specs.Faults.{IsFault}
 use Rattle.sc_cqlread.specs.Judged.{first_fault}
 use Rattle.sc_cqlread.proofs.Answered.{broken_off, judged_is}

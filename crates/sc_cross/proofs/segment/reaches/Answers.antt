@@ -1,7 +1,7 @@
 use Rattle.std.proofs.Common.{◌↔◌, arith, subst, sym, IsTrue}
 use Rattle.std.proofs.lemmas.Int.{ints, clamps}
-use Rattle.sc_geom.specs.Rectangle.{Rectangle}
-use Rattle.sc_cross.specs.Segment.{sides_of, AreOverlapping}
+use Rattle.sc_geom.specs.Rectangle.{Rectangle, AreOverlapping}
+use Rattle.sc_cross.specs.Segment.{sides_of}
 use Rattle.sc_cross.proofs.Sides.{overlap_both, overlap_not}
 use Rattle.sc_cross.proofs.segment.reaches.Goals as goal
 

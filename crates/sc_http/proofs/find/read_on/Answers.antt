@@ -5,7 +5,7 @@ use Rattle.sc_http.specs.Room.{IsShort}
 use Rattle.sc_http.specs.Intake.{IsUnfinishedHead}
 use Rattle.sc_http.specs.Reading.{IsMeasured, LookedAt}
 use Rattle.sc_http.proofs.Fronts.{measured_more, still_none}
-use Rattle.sc_http.proofs.Steps.{rest_of, reads_same, reads_end, reads_failed, reads_more, within_more, grown, unless, still_open}
+use Rattle.sc_http.proofs.Steps.{counts_reads, counts_more, rest_of, reads_same, reads_end, reads_failed, reads_more, within_more, grown, unless, still_open}
 use Rattle.sc_http.proofs.find.read_on.Goals as goal
 
 pub finding-init : goal.finding-init
@@ -72,3 +72,19 @@ finding-preserved g c =
 
 pub returns-in-Err-clause-reads : goal.returns-in-Err-clause-reads
 returns-in-Err-clause-reads g c = λ _. reads_failed _ _ _ _ _ _ _ c.finding.invariant.reads c.in-Err.ensures.bytes
+
+pub returns-in_err-extend_from_slice-in-Ok-clause-counted : goal.returns-in_err-extend_from_slice-in-Ok-clause-counted
+returns-in_err-extend_from_slice-in-Ok-clause-counted g c =
+    counts_more _ _ _ _ _ _ _ (counts_reads _ _ _ _ _ _ c.finding.invariant.reads) c.in-Ok.ensures.bytes.0 c.in-Ok.ensures.bound.0
+
+pub returns-in_err-head-in-Ok-clause-counted : goal.returns-in_err-head-in-Ok-clause-counted
+returns-in_err-head-in-Ok-clause-counted g c =
+    counts_more _ _ _ _ _ _ _ (counts_reads _ _ _ _ _ _ c.finding.invariant.reads) c.in-Ok.ensures.bytes.0 c.in-Ok.ensures.bound.0
+
+pub returns-in-Whole-clause-counted : goal.returns-in-Whole-clause-counted
+returns-in-Whole-clause-counted g c =
+    counts_more _ _ _ _ _ _ _ (counts_reads _ _ _ _ _ _ c.finding.invariant.reads) c.in-Ok.ensures.bytes.0 c.in-Ok.ensures.bound.0
+
+pub returns-in-Bad-clause-counted : goal.returns-in-Bad-clause-counted
+returns-in-Bad-clause-counted g c =
+    counts_more _ _ _ _ _ _ _ (counts_reads _ _ _ _ _ _ c.finding.invariant.reads) c.in-Ok.ensures.bytes.0 c.in-Ok.ensures.bound.0

@@ -1,12 +1,10 @@
-use Rattle.std.proofs.Common.{ap, ◌∙◌, subst, sym, length}
+use Rattle.std.proofs.Common.{ap, ◌∙◌, sym, length}
 use Rattle.sc_part.specs.Scan.{shared}
 use Rattle.sc_history.specs.Changes.{is_among}
 use Rattle.sc_history.specs.Names.{scan_of}
 use Rattle.sc_history.specs.Touch.{renewed, stamped, widened}
-use Rattle.sc_shelf.specs.Boxes.{AreBoxed}
 use Rattle.sc_shelf.specs.Changed.{come_by}
 use Rattle.sc_shelf.specs.Shelf.{part_of}
-use Rattle.sc_shelf.proofs.Hulling.{boxed_after}
 use Rattle.sc_shelf.proofs.Touching.{renewed_items, renewed_none, renewed_some}
 use Rattle.sc_shelf.proofs.touch.renew.Goals as goal
 
@@ -15,20 +13,15 @@ returns-then-len-eq0 c =
     let change = c.args.change.now in
     let part = c.args.part.now in
     let items = renewed_items change.gone c.as_slice-gone.result.now change.come c.as_slice-come.result.now c.in_ok-version.version.items part.items c.get.result.now.items c.as_slice-gone.ensures c.as_slice-come.ensures
-    (ap (λ v. v.items) c.get.ensures.value ∙ ap (λ p. p.items) c.shelf-old.ensures) (ap (λ v. v.items) c.in_ok-version.ensures.value) in
+    (ap (λ v. v.items) c.get.ensures ∙ ap (λ p. p.items) c.shelf-old.ensures) (ap (λ v. v.items) c.in_ok-version.ensures.value) in
     renewed_none c.args.revision change part (ap length (sym items) ∙ sym c.len.ensures ∙ c.if-len-eq0.true)
-
-pub renewed_shelf-requires-clause-boxed : goal.renewed_shelf-requires-clause-boxed
-renewed_shelf-requires-clause-boxed c boxed =
-    let old = subst (λ v. AreBoxed v.items) (sym c.get.ensures.value) c.get.ensures.boxed in
-    subst (λ v. AreBoxed v.items) (sym c.in_ok-version.ensures.value) (boxed_after c.as_slice-gone.result.now (shared c.as_slice-come.result.now) c.get.result.now.items boxed old)
 
 pub returns : goal.returns
 returns c =
     let change = c.args.change.now in
     let part = c.args.part.now in
     let items = renewed_items change.gone c.as_slice-gone.result.now change.come c.as_slice-come.result.now c.in_ok-version.version.items part.items c.get.result.now.items c.as_slice-gone.ensures c.as_slice-come.ensures
-    (ap (λ v. v.items) c.get.ensures.value ∙ ap (λ p. p.items) c.shelf-old.ensures) (ap (λ v. v.items) c.in_ok-version.ensures.value) in
+    (ap (λ v. v.items) c.get.ensures ∙ ap (λ p. p.items) c.shelf-old.ensures) (ap (λ v. v.items) c.in_ok-version.ensures.value) in
     let scan = scan_of (renewed (is_among change.gone) (come_by change) part.items) in
     renewed_some c.args.revision change part c.in_ok-of.field-0 (λ none. c.if-len-eq0.false (c.len.ensures ∙ ap length items ∙ none))
     (c.in_ok-of.ensures ∙ c.in_ok-shelf.ensures

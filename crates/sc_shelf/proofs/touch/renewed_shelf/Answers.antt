@@ -14,5 +14,5 @@ returns-else-is_empty c =
     let same = c.in_ok-version.ensures in
     subst (λ v. IfOk c.with_hull.result (λ shelf. part_of shelf ≡ widened c.args.revision come (stamped c.args.revision v.items old))) same
     (IfOk-weaker c.with_hull.result _ (λ shelf. part_of shelf ≡ widened c.args.revision come (stamped c.args.revision c.in_ok-version.version.items old))
-    (λ shelf e. widened_by c.args.revision come old (part_of shelf) c.in_ok-version.version c.hull_of_boxes-hull.result (shared_some c.args.come.now c.if-is_empty.ensures) c.hull_of_boxes-hull.ensures.hull (ap (λ v. v.name) same ∙ c.requires.name) (ap (λ v. v.stamp) same ∙ c.requires.stamp) e)
+    (λ shelf e. widened_by c.args.revision come old (part_of shelf) c.in_ok-version.version c.hull_of_items-hull.result (shared_some c.args.come.now c.if-is_empty.ensures) c.hull_of_items-hull.ensures.value (ap (λ v. v.name) same ∙ c.requires.name) (ap (λ v. v.stamp) same ∙ c.requires.stamp) e)
     c.with_hull.ensures)

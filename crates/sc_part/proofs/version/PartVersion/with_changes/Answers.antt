@@ -52,9 +52,9 @@ invariant_of-result c =
     let is = merged_is name gone come (shared items) fits kept.fits apart (shared c.in_ok-arrivals.arrivals.items) (staying c.in_ok-marks.marks.items (shared items)) (shared merged) c.in_ok-arrivals.ensures stay said in
     let same = subst (λ l. Rattle.std.proofs.Common.IsPermutation (after gone come (shared items)) (shared l)) (sym c.deref-11.ensures.value) (permuted_after name gone come (shared items) fits kept.fits apart (shared merged) is) in
     record {
-      kept = rw c.in_ok-name.ensures (kept_after name gone come (shared items) fits kept.fits apart c.args.stamp (shared merged) is);
+      kept = rw c.in_ok-name.ensures (kept_after name gone come (shared items) fits kept.fits apart c.args.stamp (shared merged) is (rw c.deref-11.ensures.value at (c.hull_after-hull.ensures.kept (shared items) kept.each same)));
       index = subst (λ l. IsIndex (ids_of l) c.in_ok-index.index.items) c.deref-10.ensures.value c.in_ok-index.ensures;
-      hull = rw c.deref-11.ensures.value at (c.hull_after-hull.ensures (shared items) c.self.invariant.hull same);
+      hull = rw c.deref-11.ensures.value at (c.hull_after-hull.ensures.hull (shared items) c.self.invariant.hull same);
     }
 
 pub returns-clause-value : goal.returns-clause-value

@@ -6,5 +6,5 @@ pub returns-in_err-push_items-clause-most : goal.returns-in_err-push_items-claus
 returns-in_err-push_items-clause-most g c =
     let p = c.part-item.result in
     let parts : c.as_slice-part-items.result.now ≡ c.args.self.now.parts = search in
-    let most = within_all c.as_slice-part-items.result.now c.loop-part.part-index p c.args.steps.now c.loop-part.steps c.scan.new.steps c.loop-part-test.true c.part-item.is c.loop-part.invariant.1 (c.scan.ensures.steps ∙ ap (λ v. c.loop-part.steps + 1 + length v.items) c.version.ensures) in
+    let most = within_all c.as_slice-part-items.result.now c.loop-part.part-index p c.args.steps.now c.loop-part.steps c.scan.new.steps c.loop-part-test.true c.part-item.is c.loop-part.invariant.1 (c.scan.ensures.steps ∙ ap (λ v. c.loop-part.steps + 1 + length v.items) c.version.ensures.version) in
     err_anyway _ (rw parts at most)

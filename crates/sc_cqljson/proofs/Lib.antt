@@ -1,0 +1,15 @@
+pub mod Counts
+pub mod Telling
+pub mod Forming
+pub mod Smaller
+pub mod Leaves
+pub mod Tags
+pub mod Unique
+pub mod Excluding
+pub mod Answers
+pub mod Folding
+pub mod Refusing
+pub mod Applying
+pub mod Listing
+pub mod Drawing
+pub mod Ending

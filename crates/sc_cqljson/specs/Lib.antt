@@ -1,0 +1,10 @@
+pub mod Words
+pub mod Operators
+pub mod Heads
+pub mod Drawn
+pub mod Spells
+pub mod Forms
+pub mod Unfit
+pub mod Told
+pub mod Seen
+pub mod Filters

@@ -1,0 +1,9 @@
+pub mod Property
+pub mod Comparison
+pub mod Like
+pub mod Shorter
+pub mod Meaning
+pub mod Held
+pub mod Selection
+pub mod Names
+pub mod Prepared

@@ -1,0 +1,9 @@
+pub mod Comparing
+pub mod Predicates
+pub mod Places
+pub mod Smallest
+pub mod Boxed
+pub mod Covering
+pub mod Sound
+pub mod Selects
+pub mod Texts

@@ -1,0 +1,7 @@
+mod Adds
+mod Conflicts
+mod Finds
+mod Names
+mod Nowhere
+mod Splits
+mod Written

@@ -1,0 +1,10 @@
+pub mod Words
+pub mod Given
+pub mod Sources
+pub mod Reading
+pub mod Limit
+pub mod Space
+pub mod Names
+pub mod Filters
+pub mod Order
+pub mod Query

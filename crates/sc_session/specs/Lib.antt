@@ -1,0 +1,4 @@
+pub mod Service
+pub mod Handling
+pub mod Session
+pub mod Steps

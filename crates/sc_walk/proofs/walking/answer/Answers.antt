@@ -1,0 +1,20 @@
+use Rattle.std.proofs.Common.{subst, ◌∙◌, sym, ap}
+use Rattle.sc_expr.specs.Query.{Asked}
+use Rattle.sc_item.specs.Names.{AreApart}
+use Rattle.sc_history.proofs.Covering.{snapshot_apart}
+use Rattle.sc_shelf.specs.Kept.{all_items}
+use Rattle.sc_page.specs.Kept.{HasFound}
+use Rattle.sc_page.specs.Search.{IsPage, shared}
+use Rattle.sc_page.proofs.Outcomes.{if_ok_map}
+use Rattle.sc_walk.proofs.walking.answer.Goals as goal
+
+pub returns : goal.returns
+returns g c =
+    let parts = c.args.snapshot.now.parts in
+    let items = all_items parts in
+    let apart = snapshot_apart c.args.snapshot.now c.revision-revision.ensures.stood in
+    let found = c.in_ok-take_parts.ensures (subst (λ l. AreApart (all_items l)) (sym c.parts.ensures) apart) c.new-first.ensures in
+    if_ok_map _ _
+    (λ page p. subst (λ (asked : Asked). IsPage asked items (shared page.items) page.next) c.in_ok-search.ensures
+    (p items apart (subst (λ l. HasFound c.in_ok-search.search c.take_parts.new.first (all_items l)) c.parts.ensures found)))
+    c.into_page.result c.into_page.ensures

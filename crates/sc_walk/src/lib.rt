@@ -1,0 +1,8 @@
+//! Searches over the parts of a snapshot.
+#![tactic(auto)]
+
+mod walking;
+
+pub use sc_page::{Page, Query};
+pub use sc_shelf::Snapshot;
+pub use walking::answer;

@@ -1,0 +1,9 @@
+//! What the words of the command line ask for.
+#![tactic(auto)]
+
+mod command;
+pub mod laws;
+mod number;
+mod words;
+
+pub use command::{Command, Serving, command_of, serving_of};
