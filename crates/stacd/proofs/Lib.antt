@@ -1,4 +1,3 @@
 pub mod Judging
 pub mod Naming
 pub mod Ends
-pub mod Numbers

@@ -1,5 +1,5 @@
 pub mod Lines
 pub mod Names
 pub mod Page
-pub mod Command
 pub mod Program
+pub mod Serving

@@ -1,24 +1,31 @@
-//! The catalogue server: `stacd page LIMIT` reads one item a line and prints their page.
+//! The catalogue server: `stacd serve` answers the STAC API over HTTP, `stacd pipe` on one connection, and `stacd page` prints
+//! the page of the items of its input.
 #![tactic(auto)]
 
-mod command;
 mod fault;
 mod laws;
 mod lines;
 mod names;
 mod page;
 mod program;
+mod serving;
 mod tell;
 #[cfg(test)]
 mod tests;
 
-use page::PageEnd;
-use sc_outside::{MemListen, Seq, StdSink, StdSource};
+ghost use Rattle.std.specs.Prelude.{◌≡◌, ℕ, IfOk, length, map};
+ghost use Rattle.sc_words.specs.Asks.{AreServeWords};
+ghost use Rattle.sc_words.specs.declared.command.Serving.{Serving as ServingRecord};
+
+use sc_net::TcpListen;
+use sc_outside::{Seq, StdSink, StdSource};
 use sc_page::Text;
+use sc_words::{Serving, serving_of};
 use std::alloc::AllocError;
+use std::net::TcpListener;
 use std::process::ExitCode;
 use std::{env, io};
-use tell::tell_end;
+use tell::tell_no_memory;
 
 /// The words after the program's name. Words that aren't UTF-8 are no command, as no words are.
 fn words_of(rt: &HostRuntime) -> Result<Vec<Text>, AllocError> {
@@ -36,14 +43,55 @@ fn words_of(rt: &HostRuntime) -> Result<Vec<Text>, AllocError> {
     }
 }
 
+/// The listeners of a server at a port of 127.0.0.1: one for each worker, all of one socket. Where the port can't be had
+/// they are listeners that fail.
+fn listeners(rt: &HostRuntime, serving: Serving) -> Result<Seq<TcpListen>, AllocError>
+    ensures { IfOk result (λ nets. length nets ≡ serving.workers) }
+{
+    let mut nets = Vec::with_capacity(rt.alloc(), serving.workers as usize)?;
+    let bound = TcpListener::bind(rt, ("127.0.0.1", serving.port));
+    for _ in 0..serving.workers {
+        let listener = match &bound {
+            Ok(listener) => listener.try_clone().ok(),
+            Err(_) => None,
+        };
+        nets.push(match listener {
+            Some(listener) => TcpListen::new(listener),
+            None => TcpListen::failed(),
+        })?;
+    }
+    Ok(Seq::of(nets))
+}
+
+/// The listeners that the words ask for.
+fn listeners_for(rt: &HostRuntime, words: &[&str]) -> Result<Seq<TcpListen>, AllocError>
+    ensures { IfOk result (λ nets. (serving : ServingRecord) → AreServeWords (map (λ s. s.now) words.now) serving → length nets ≡ serving.workers) }
+{
+    match serving_of(words) {
+        Some(serving) => listeners(rt, serving),
+        None => Ok(Seq::new(rt.alloc())),
+    }
+}
+
+/// The same of words that aren't lent yet.
+fn listeners_of(rt: &HostRuntime, words: &[Text]) -> Result<Seq<TcpListen>, AllocError>
+    ensures { IfOk result (λ nets. (serving : ServingRecord) → AreServeWords words.now serving → length nets ≡ serving.workers) }
+{
+    let lent = program::lent(rt.alloc(), words)?;
+    listeners_for(rt, &lent)
+}
+
 fn main(rt: HostRuntime) -> ExitCode {
     let alloc = rt.alloc();
     let mut errors = StdSink::new(rt.stderr());
     let Ok(words) = words_of(&rt) else {
-        tell_end(&mut errors, PageEnd::OutOfMemory);
+        tell_no_memory(&mut errors);
         return ExitCode::from(6);
     };
-    let mut nets: Seq<MemListen> = Seq::new(alloc);
+    let Ok(mut nets) = listeners_of(&rt, &words) else {
+        tell_no_memory(&mut errors);
+        return ExitCode::from(6);
+    };
     let mut input = StdSource::new(rt.stdin());
     let mut output = StdSink::new(rt.stdout());
     let status = program::stacd(

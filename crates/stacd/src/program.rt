@@ -1,16 +1,17 @@
-ghost use Rattle.std.specs.Prelude.{◌≡◌, ◌≢◌, ◌↔◌, ◌≤◌, ℕ, [], vec_len, length};
-ghost use Rattle.std.specs.Io.KnownBytes.{Keeps};
-ghost use Rattle.sc_outside.specs.Causes.{Rose};
-ghost use Rattle.stacd.specs.declared.page.PageEnd.{PageEnd};
-ghost use Rattle.stacd.specs.Command.{AskPage, AskNothing};
-ghost use Rattle.stacd.specs.Program.{RanPage, Tells, status_of, message_of, usage_text};
+ghost use Rattle.std.specs.Prelude.{◌≡◌, ℕ, IfOk, length, map};
+ghost use Rattle.sc_words.specs.Asks.{AreServeWords};
+ghost use Rattle.sc_words.specs.declared.command.Serving.{Serving as ServingRecord};
+ghost use Rattle.stacd.specs.Program.{CanRun, Runs, RunsCommand, status_of, status_of_connection};
 
-use crate::command::asked_page;
 use crate::page::{PageEnd, page};
-use crate::tell::{tell_end, tell_usage};
+use crate::serving;
+use crate::serving::serve;
+use crate::tell::{tell_connection, tell_end, tell_no_memory, tell_serving, tell_usage};
 use sc_outside::{Listen, Seq, Sink, Source};
 use sc_page::Text;
-use std::alloc::Global;
+use sc_serve::{ConnEnd, pipe};
+use sc_words::{Command, command_of};
+use std::alloc::{AllocError, Global};
 use std::sync::Wait;
 use std::thread::Threads;
 
@@ -27,12 +28,91 @@ fn status(end: PageEnd) -> u8
     }
 }
 
-/// Runs the program on the words behind its name, over its input and outputs, and answers its status.
-/// 0: the page was written. 2: the words are no command. 3: a line of the input is bad. 4: the input failed.
-/// 5: the output failed. 6: memory was wanting. But for 0 it tells a text on `errors`; where that fails, the status stays.
-/// No command of today asks a listener, so `nets` is empty.
-pub fn stacd<R: Threads + Wait + Sync, S: Source, K: Sink, E: Sink, L: Listen>(
-    _rt: &R,
+/// The status of the end of a connection.
+fn status_of_end(end: ConnEnd) -> u8
+    ensures { result ≡ status_of_connection end }
+{
+    match end {
+        ConnEnd::Ended => 0,
+        ConnEnd::Cut { .. } => 3,
+        ConnEnd::BadHead { .. } => 3,
+        ConnEnd::BadLength { .. } => 3,
+        ConnEnd::Spent => 3,
+        ConnEnd::ReadFault => 4,
+        ConnEnd::WriteFault => 5,
+        ConnEnd::OutOfMemory => 6,
+    }
+}
+
+/// The words, lent.
+pub(crate) fn lent<'a>(alloc: Global, words: &'a [Text]) -> Result<Vec<&'a str>, AllocError>
+    ensures { IfOk result (λ lent. map (λ s. s.now) lent.items ≡ words.now) }
+{
+    let mut lent = Vec::with_capacity(alloc, words.len())?;
+    for word in words {
+        lent.push(word.as_str())?;
+    }
+    Ok(lent)
+}
+
+/// Does what a command asks for, and answers its status.
+fn run<R: Threads + Wait + Sync, S: Source, K: Sink, E: Sink, L: Listen + Send + Drop>(
+    rt: &R,
+    alloc: Global,
+    command: Command<'_>,
+    input: &mut S,
+    output: &mut K,
+    errors: &mut E,
+    nets: &mut Seq<L>,
+) -> u8
+where
+    L::In: Send,
+    L::Out: Send,
+    requires { CanRun (length nets.old) command }
+    ensures { RunsCommand L.In.left L.In.ended L.In.faults L.Out.written L.Out.faults L.left L.handed_back L.faults
+        (record { left = S.left input.old; ended = S.ended input.old; faults = S.faults input.old }) (record { left = S.left input.new; ended = S.ended input.new; faults = S.faults input.new })
+        (record { written = K.written output.old; faults = K.faults output.old }) (record { written = K.written output.new; faults = K.faults output.new })
+        (record { written = E.written errors.old; faults = E.faults errors.old }) (record { written = E.written errors.new; faults = E.faults errors.new })
+        nets.old nets.new command.entry result }
+{
+    match command {
+        Command::Page { limit } => {
+            let end = page(alloc, limit, input, output);
+            tell_end(errors, end);
+            status(end)
+        }
+        Command::Pipe { base } => match Text::from_str(alloc, base) {
+            Ok(base) => {
+                let end = pipe(alloc, &base, input, output);
+                tell_connection(errors, end);
+                status_of_end(end)
+            }
+            Err(_) => {
+                tell_no_memory(errors);
+                6
+            }
+        },
+        Command::Serve(serving) => {
+            let end = serve(rt, alloc, serving, output, nets);
+            tell_serving(errors, end);
+            serving::status_of_end(end)
+        }
+    }
+}
+
+/// Runs the program on the words behind its name, over its input and outputs and the listeners of a server, and answers its
+/// status. 0: done. 2: the words are no command. 3: the input isn't what the command reads. 4: the input failed. 5: the
+/// output failed. 6: memory was wanting. 7: a listener failed. But for 0 it tells a text on `errors`; where that fails, the
+/// status stays. The condition is that there are as many listeners as a command `serve` asks workers for. It waits where
+/// it serves.
+pub fn stacd<
+    R: Threads + Wait + Sync,
+    S: Source,
+    K: Sink,
+    E: Sink,
+    L: Listen + Send + Drop,
+>(
+    rt: &R,
     alloc: Global,
     words: &[Text],
     input: &mut S,
@@ -40,30 +120,29 @@ pub fn stacd<R: Threads + Wait + Sync, S: Source, K: Sink, E: Sink, L: Listen>(
     errors: &mut E,
     nets: &mut Seq<L>,
 ) -> u8
-    requires { nets.old ≡ [] }
-
-    // The words decide what is done.
-    ensures usage { (result ≡ 2) ↔ AskNothing words.now }
-    ensures told_usage { AskNothing words.now → Tells (E.written errors.old) (E.written errors.new) (E.faults errors.old) (E.faults errors.new) usage_text }
-    ensures untouched { AskNothing words.now → Keeps (K.written output.old) (K.written output.new) }
-    ensures page { (most : ℕ) → AskPage words.now most → (end : PageEnd)
-        × RanPage end most result (S.left input.old) (S.left input.new) (S.ended input.new) (K.written output.old) (K.written output.new)
-        × Tells (E.written errors.old) (E.written errors.new) (E.faults errors.old) (E.faults errors.new) (message_of end) }
-
-    // A fault is answered only where there was one in this call.
-    ensures read { result ≡ 4 → Rose (S.faults input.old) (S.faults input.new) }
-    ensures write { result ≡ 5 → Rose (K.faults output.old) (K.faults output.new) }
-    ensures nets { nets.new ≡ [] }
+where
+    L::In: Send,
+    L::Out: Send,
+    requires { (serving : ServingRecord) → AreServeWords words.now serving → length nets.old ≡ serving.workers }
+    ensures ran { Runs L.In.left L.In.ended L.In.faults L.Out.written L.Out.faults L.left L.handed_back L.faults
+        (record { left = S.left input.old; ended = S.ended input.old; faults = S.faults input.old }) (record { left = S.left input.new; ended = S.ended input.new; faults = S.faults input.new })
+        (record { written = K.written output.old; faults = K.faults output.old }) (record { written = K.written output.new; faults = K.faults output.new })
+        (record { written = E.written errors.old; faults = E.faults errors.old }) (record { written = E.written errors.new; faults = E.faults errors.new })
+        nets.old nets.new words.now result }
 {
-    match asked_page(words) {
-        None => {
+    let Ok(lent) = lent(alloc, words) else {
+        tell_no_memory(errors);
+        return 6;
+    };
+    match command_of(alloc, &lent) {
+        Err(_) => {
+            tell_no_memory(errors);
+            6
+        }
+        Ok(None) => {
             tell_usage(errors);
             2
         }
-        Some(limit) => {
-            let end = page(alloc, limit, input, output);
-            tell_end(errors, end);
-            status(end)
-        }
+        Ok(Some(command)) => run(rt, alloc, command, input, output, errors, nets),
     }
 }

@@ -1,0 +1,4 @@
+pub mod Bodies
+pub mod Jobs
+pub mod Pairs
+pub mod Seen

@@ -1,0 +1,7 @@
+pub mod Turns
+pub mod Contents
+pub mod Pages
+pub mod Saying
+pub mod Finding
+pub mod Replying
+pub mod Telling

@@ -1,0 +1,5 @@
+use Rattle.sc_serve.proofs.Telling.{stated_told}
+use Rattle.sc_serve.proofs.laws.nothing_older_than_stated.Goals as goal
+
+pub returns : goal.returns
+returns c = stated_told

@@ -1,0 +1,93 @@
+ghost use Rattle.std.specs.Prelude.{◌≡◌, ◌<◌, [], All};
+ghost use Rattle.sc_catalog.specs.declared.entry.Entry.{Entry};
+ghost use Rattle.sc_visit.specs.Visits.{Visitor};
+ghost use Rattle.sc_session.specs.Session.{Session};
+ghost use Rattle.sc_serve.specs.Service.{api};
+ghost use Rattle.sc_serve.specs.Desks.{IsAlone};
+
+use crate::answering::Api;
+use crate::desk::Desk;
+use crate::lone::LoneDesk;
+use sc_base::Text;
+use sc_desk::DeskPass;
+use sc_outside::{Sink, Source, Steps};
+use sc_route::Routes;
+use sc_session::{ConnEnd, give_up, serve};
+use std::alloc::Global;
+use std::marker::Brand;
+use std::sync::Wait;
+use std::sync::ledger::{Blank, Ledger};
+
+/// Serves one connection by turns at a desk. What searches cost is counted over the ledger that is handed in.
+fn serve_desk<R, D: Desk<R>, S: Source, K: Sink, L: Ledger>(
+    rt: &R,
+    alloc: Global,
+    desk: &mut D,
+    base: &Text,
+    source: &mut S,
+    sink: &mut K,
+    blank: Blank,
+) -> ConnEnd
+    requires name { blank.name ≡ L.name }
+    requires parts { blank.parts ≡ L.parts }
+    requires some { 0 < blank.parts }
+    ensures { (old : Visitor Entry) → D.stands desk.old old → (new : Visitor Entry) × D.stands desk.new new ×
+        Session (api base.now)
+        (record { left = S.left source.old; ended = S.ended source.old; faults = S.faults source.old; written = K.written sink.old; write_faults = K.faults sink.old; visitor = old })
+        (record { left = S.left source.new; ended = S.ended source.new; faults = S.faults source.new; written = K.written sink.new; write_faults = K.faults sink.new; visitor = new })
+        result }
+{
+    let mut steps: Steps<L> = Steps::new(blank);
+    match Routes::new(alloc) {
+        Err(_) => give_up(sink),
+        Ok(routes) => serve(
+            rt,
+            alloc,
+            &Api { routes, base },
+            desk,
+            &mut steps,
+            source,
+            sink,
+        ),
+    }
+}
+
+/// Serves one connection by turns of a pass at the desk of a catalogue, up to the first request that asks to close. The base
+/// is the address of the catalogue without a slash at its end. It waits for its turns, and answers outside of them.
+pub fn serve_connection<'d, R: Wait, S: Source, K: Sink>(
+    rt: &R,
+    alloc: Global,
+    pass: &mut DeskPass<'d>,
+    base: &Text,
+    source: &mut S,
+    sink: &mut K,
+) -> ConnEnd
+    ensures { Session (api base.now)
+        (record { left = S.left source.old; ended = S.ended source.old; faults = S.faults source.old; written = K.written sink.old; write_faults = K.faults sink.old; visitor = pass.old })
+        (record { left = S.left source.new; ended = S.ended source.new; faults = S.faults source.new; written = K.written sink.new; write_faults = K.faults sink.new; visitor = pass.new })
+        result }
+{
+    serve_desk::<R, DeskPass<'d>, S, K, Brand>(rt, alloc, pass, base, source, sink, Blank::new(1))
+}
+
+/// Serves one connection over a catalogue of its own, which has taken no load, by the number 1. It waits for nobody.
+pub fn pipe<S: Source, K: Sink>(alloc: Global, base: &Text, source: &mut S, sink: &mut K) -> ConnEnd
+    ensures { (old : Visitor Entry) → IsAlone [] old → (new : Visitor Entry) × All (λ entry. entry.by ≡ 1) new.seen ×
+        Session (api base.now)
+        (record { left = S.left source.old; ended = S.ended source.old; faults = S.faults source.old; written = K.written sink.old; write_faults = K.faults sink.old; visitor = old })
+        (record { left = S.left source.new; ended = S.ended source.new; faults = S.faults source.new; written = K.written sink.new; write_faults = K.faults sink.new; visitor = new })
+        result }
+{
+    match LoneDesk::new(alloc) {
+        Err(_) => give_up(sink),
+        Ok(mut desk) => serve_desk::<(), LoneDesk, S, K, Brand>(
+            &(),
+            alloc,
+            &mut desk,
+            base,
+            source,
+            sink,
+            Blank::new(1),
+        ),
+    }
+}

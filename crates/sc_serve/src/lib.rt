@@ -1,0 +1,18 @@
+//! The STAC API of a catalogue on one connection.
+#![tactic(auto)]
+
+mod answering;
+mod connection;
+mod desk;
+mod faults;
+pub mod laws;
+mod loading;
+mod lone;
+mod reading;
+#[cfg(test)]
+mod tests;
+
+pub use connection::{pipe, serve_connection};
+pub use desk::Desk;
+pub use lone::LoneDesk;
+pub use sc_session::ConnEnd;
