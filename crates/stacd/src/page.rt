@@ -8,7 +8,7 @@ ghost use Rattle.stacd.specs.Page.{IsAnswer, EndsOn, PageRan, end_of_fault};
 use crate::fault::LineFault;
 use crate::lines::{MOST_BYTES, judge};
 use sc_outside::{ReadEnd, Seq, Sink, Source, Taken, read_all, write_all};
-use sc_page::{Text, bare_bare_page_text};
+use sc_page::{Text, bare_page_text};
 use std::alloc::Global;
 
 /// How a call of `page` ends.
@@ -30,7 +30,7 @@ fn answer(alloc: Global, limit: u32, bytes: Seq<u8>) -> Result<Text, LineFault>
     ensures { MatchResult result (IsAnswer (lines_to_read true bytes) limit) (IsFault (lines_to_read true bytes)) }
 {
     let page = judge(alloc, bytes, true, limit)?;
-    let mut text = bare_bare_page_text(alloc, page.as_slice())?;
+    let mut text = bare_page_text(alloc, page.as_slice())?;
     text.push_str("\n")?;
     Ok(text)
 }
