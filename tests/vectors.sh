@@ -1,5 +1,5 @@
 #!/usr/bin/env bash
-# Runs the built programs over the stored cases: whole runs of `stacd`, and single questions to `probe`.
+# Runs the built programs over the stored cases: whole runs of `stacd page` and `stacd pipe`, and single questions to `probe`.
 set -e
 cd "$(dirname "${BASH_SOURCE[0]}")/.."
 if ! command -v python3 >/dev/null; then
@@ -7,7 +7,7 @@ if ! command -v python3 >/dev/null; then
     exit 1
 fi
 ./stacd page 1 </dev/null >/dev/null
-python3 tests/runs.py crates/stacd/out/stacd tests/vectors/page
+python3 tests/runs.py crates/stacd/out/stacd tests/vectors/{page,pipe,pipe-head,pipe-token}
 probe=crates/probe/out/probe
 if [ ! -x "$probe" ] || [ -n "$(find crates/*/src -newer "$probe" -name '*.rt' -print -quit)" ]; then
     echo "tests/vectors.sh: proves and builds the probe first, which takes minutes" >&2
