@@ -9,7 +9,13 @@ if ! command -v curl >/dev/null; then
     exit 1
 fi
 asks() {
-    echo "\$ curl ${*@Q}"
+    local word
+    printf '$ curl'
+    for word in "$@"; do
+        if [[ $word =~ [^A-Za-z0-9./:@=_-] ]]; then word=${word@Q}; fi
+        printf ' %s' "$word"
+    done
+    echo
     curl -q -sSf --noproxy '*' "$@"
     printf '\n\n'
 }
@@ -29,4 +35,4 @@ done
 
 asks -d '{"id":"s2","catalogue:cut":"month"}' "$base/collections"
 asks -d "@$here/scenes.json" "$base/collections/s2/items"
-asks -G -d limit=2 --data-urlencode "filter=eo:cloud_cover < 20 AND platform = 'sentinel-2a'" "$base/search"
+asks -G --data-urlencode 'filter=eo:cloud_cover < 20 AND S_INTERSECTS(geometry, POINT(5 52))' "$base/search"
