@@ -1,14 +1,16 @@
 -- Connections that are served one after the other.
-use Rattle.std.proofs.Common.{◌≡◌, ◌⊎◌, inl, inr, ℕ, ◌+◌, ◌-◌, ◌^◌, ◌<◌, ◌≤◌, min, Bool, true, false, List, [], ◌∷◌, ◌++◌, length, refl, sym, ap, ◌∙◌, subst, arith, append-nil, append_assoc, length-append, None, Some, tt}
-use Rattle.std.specs.Prelude.{⊤}
+use Rattle.std.proofs.Common.{◌≡◌, inl, inr, ℕ, ◌+◌, ◌≤◌, Bool, true, false, List, [], ◌∷◌, ◌++◌, length, refl, sym, ap, ◌∙◌, subst, arith, append_assoc, length-append, None, Some}
+use Rattle.std.proofs.lemmas.List.{append-nil}
 use Rattle.std.specs.declared.option.Option.{Option}
 use Rattle.sc_outside.specs.Causes.{Rose}
-use Rattle.sc_outside.specs.Connections.{HandsOut, TakesBack, NoneLeft, Stays}
+use Rattle.sc_outside.specs.Connections.{AtMostOut, CountsUp, HandsOut, IsOwed, NoneLeft, Stays, TakesBack}
 use Rattle.sc_visit.specs.Visits.{Visitor}
 use Rattle.sc_session.specs.declared.ending.ConnEnd.{ConnEnd}
 use Rattle.sc_session.specs.Service.{Service}
-use Rattle.sc_session.specs.Session.{Place, Session}
-use Rattle.sc_server.specs.Listening.{HandsOutAll, TakesBackAll, place_of, AreServed, IsListened, ListensOnce}
+use Rattle.sc_session.specs.Session.{Session}
+use Rattle.sc_server.specs.Listening.{HandsOutAll, AreAll, TakesBackAll, place_of, AreServed, IsListened, ListensOnce}
+use Rattle.sc_server.specs.Steady.{AreAlike}
+use Rattle.sc_server.specs.declared.listening.Asked.{Asked}
 use Rattle.sc_server.specs.declared.listening.Asked.TheVariants as asked
 
 none_out : {X : Type 0} (l : Option (List X)) → HandsOutAll l l []
@@ -48,11 +50,32 @@ are_all None m xs a n = tt
 are_all (Some all) None xs a n = absurd a
 are_all (Some all) (Some rest) xs a n = a ∙ ap (λ t. xs ++ t) n ∙ append-nil xs
 
+-- what was handed out before a change that leaves the list as it is
+pub handed_then : {X : Type 0} (l m n : Option (List X)) (x : X) → HandsOut l m x → Stays m n → HandsOut l n x
+handed_then None m n x a b = tt
+handed_then (Some xs) None n x a b = absurd a
+handed_then (Some xs) (Some ys) None x a b = absurd b
+handed_then (Some xs) (Some ys) (Some zs) x a b = a ∙ ap (λ t. x ∷ t) (sym b)
+
+-- what is taken back behind a change that leaves the list as it is
+pub taken_then : {X : Type 0} (l m n : Option (List X)) (x : X) → Stays l m → TakesBack m n x → TakesBack l n x
+taken_then None m n x a b = tt
+taken_then (Some xs) None n x a b = absurd a
+taken_then (Some xs) (Some ys) None x a b = absurd b
+taken_then (Some xs) (Some ys) (Some zs) x a b = b ∙ ap (λ t. t ++ x ∷ []) a
+
+-- a connection that was handed out may be handed back
+pub owed : {X : Type 0} (out out' : Option ℕ) (back back' : Option (List X)) → AreAlike out out' → AreAlike back back' → AtMostOut out back → CountsUp out out' → Stays back back' → IsOwed out' back'
+owed None None back back' s t most up stays = tt
+owed None (Some m) back back' s t most up stays = absurd s
+owed (Some n) None back back' s t most up stays = tt
+owed (Some n) (Some m) None None s t most up stays = tt
+owed (Some n) (Some m) None (Some ys) s t most up stays = absurd t
+owed (Some n) (Some m) (Some xs) None s t most up stays = tt
+owed (Some n) (Some m) (Some xs) (Some ys) s t most up stays = omega (arith, most, up, ap length stays)
+
 rose_later : (a b c : ℕ) → a ≤ b → Rose b c → Rose a c
 rose_later a b c l r = omega (arith, l, r)
-
-rose_is_later : (a b c : ℕ) → a ≤ b → Rose b c → b ≤ 2 ^ 64 - 1 → a ≤ c
-rose_is_later a b c l r u = omega (arith, l, r, u)
 
 module _ {In Out E L J : Type 0} (left : In → Option (List ℕ)) (ended : In → Bool) (faults : In → ℕ) (written : Out → Option (List ℕ)) (write_faults : Out → ℕ) (service : Service E L J) where
   served_more : (cs ds : List (In × Out)) (c d : In × Out) (end : ConnEnd) (old mid new : Visitor E)
@@ -76,10 +99,10 @@ module _ {In Out E L J : Type 0} (left : In → Option (List ℕ)) (ended : In �
       pub many : length given ≡ count
       pub later : net_faults old_net ≤ net_faults new_net
 
-    abbrev Once : _
+    abbrev Once : Asked → N → N → Visitor E → Visitor E → Type 0
     Once = ListensOnce left ended faults written write_faults service net_left net_back net_faults
 
-    abbrev Listened : _
+    abbrev Listened : ℕ → Bool → N → N → Visitor E → Visitor E → Type 0
     Listened = IsListened left ended faults written write_faults service net_left net_back net_faults
 
     pub none_yet : (net : N) (old : Visitor E) → SoFar 0 net net old old

@@ -1,11 +1,12 @@
 -- A row of workers, and what their cards show of the closed history.
-use Rattle.std.proofs.Common.{◌≡◌, ℕ, zero, suc, ◌+◌, ◌-◌, ◌<◌, ◌≤◌, Bool, List, [], ◌∷◌, ◌++◌, length, get_or, slice_index_or, sym, refl, ap, ap₂, ◌∙◌, subst, arith, length-append, append_assoc, map}
+use Rattle.std.proofs.Common.{◌≡◌, ℕ, zero, suc, ◌+◌, ◌-◌, ◌<◌, inl, inr, Bool, true, false, ◌||◌, List, [], ◌∷◌, ◌++◌, length, get_or, sym, refl, ap, ap₂, ◌∙◌, subst, arith, length-append, append_assoc, map}
 use Rattle.std.proofs.lemmas.List.{length-map}
-use Rattle.std.specs.List.{All, list_any}
+use Rattle.std.proofs.Math.ListN.{get_or-append}
+use Rattle.std.specs.List.{list_any}
 use Rattle.std.specs.declared.option.Option.{Option}
 use Rattle.sc_turn.specs.{TableId}
 use Rattle.sc_turn.specs.History.{HasNumbers, Closes}
-use Rattle.sc_turn.specs.Passes.{card_desk, card_number, card_seen, pair_of, IsNew, AreNew}
+use Rattle.sc_turn.specs.Passes.{card_desk, card_number, card_seen, card_start, card_visits, pair_of, IsNew, AreNew}
 use Rattle.sc_turn.specs.declared.booked.Booked.{Ghosts}
 use Rattle.sc_turn.specs.declared.pass.Card.{Card}
 use Rattle.sc_load.specs.declared.load.Load.{Load}
@@ -13,16 +14,16 @@ use Rattle.sc_catalog.specs.declared.entry.Entry.{Entry}
 use Rattle.sc_catalog.specs.Entries.{by}
 use Rattle.sc_http.specs.declared.request.Request.{Request}
 use Rattle.sc_http.specs.declared.reply.Reply.{Reply}
-use Rattle.sc_visit.specs.Visits.{Visitor, IsSame, TakesTurn, TakesTurns}
+use Rattle.sc_visit.specs.Visits.{Visitor, IsSame}
 use Rattle.sc_session.specs.declared.ending.ConnEnd.{ConnEnd}
 use Rattle.sc_session.specs.declared.ending.ConnEnd.TheVariants as Conn
 use Rattle.sc_session.specs.declared.ask.Ask.{Ask}
 use Rattle.sc_session.specs.declared.ask.Ask.TheVariants as Asks
 use Rattle.sc_session.specs.Service.{Service}
-use Rattle.sc_session.specs.Handling.{Publishes, PublishesFrom, Does, GivesUp, Handles, AreHandled}
+use Rattle.sc_session.specs.Handling.{Publishes, Does, GivesUp, AreHandled}
 use Rattle.sc_session.specs.Session.{Place, AfterLast, Session}
 use Rattle.sc_server.specs.Listening.{place_of, AreServed, IsListened}
-use Rattle.sc_server.specs.Workers.{newcomer, seen_by, IsFresh, AreBound, AreParts, AreBack, IsWorked, AreWorked, IsServed}
+use Rattle.sc_server.specs.Workers.{newcomer, seen_by, IsFresh, AreBound, AreParts, AreBack, AreWorked, IsServed}
 use Rattle.sc_server.specs.declared.worker.Worker.{Worker}
 
 -- ---- a session keeps the pass
@@ -102,6 +103,10 @@ module _ {A : Type 0} where
   snoc_each P (a ∷ xs) x h p zero d lt = h zero d (omega arith)
   snoc_each P (a ∷ xs) x h p (suc k) d lt = snoc_each (λ j. P (suc j)) xs x (λ j e m. h (suc j) e (omega arith)) p k d (omega arith)
 
+  -- one more was counted, and joins the list
+  pub count_step : (xs : List A) (x : A) (n n' : ℕ) → n' ≡ n + 1 → n ≡ length xs → n' ≡ length (xs ++ x ∷ [])
+  count_step xs x n n' more is = more ∙ ap (λ k. k + 1) is ∙ sym (length-append xs (x ∷ []))
+
   pub split_step : (all ys zs zs' : List A) (x : A) → all ≡ ys ++ zs' → zs' ≡ x ∷ zs → all ≡ (ys ++ x ∷ []) ++ zs
   split_step all ys zs zs' x split next = split ∙ ap (λ l. ys ++ l) next ∙ sym (append_assoc ys (x ∷ []) zs)
 
@@ -117,7 +122,7 @@ same_images : {A B C : Type 0} (f : A → C) (g : B → C) (xs : List A) (ys : L
 same_images f g [] [] l e = refl
 same_images f g [] (y ∷ ys) l e = absurd (omega (arith, l))
 same_images f g (x ∷ xs) [] l e = absurd (omega (arith, l))
-same_images f g (x ∷ xs) (y ∷ ys) l e = ap₂ (λ a as. a ∷ as) (e zero x y (omega arith)) (same_images f g xs ys (omega (arith, l)) (λ k a b lt. e (suc k) a b (omega arith)))
+same_images f g (x ∷ xs) (y ∷ ys) l e = ap₂ (λ z zs. z ∷ zs) (e zero x y (omega arith)) (same_images f g xs ys (omega (arith, l)) (λ k a b lt. e (suc k) a b (omega arith)))
 
 images_twice : {A B C : Type 0} (f : A → B) (g : B → C) (xs : List A) → map (λ x. g (f x)) xs ≡ map g (map f xs)
 images_twice f g [] = refl
@@ -139,11 +144,29 @@ any_more f (y ∷ xs) x = ap (λ b. f y || b) (any_more f xs x) ∙ or_again (f 
     or_again true b c = refl
     or_again false b c = refl
 
+-- which of two conditions is known tells of both
+pub either_first : (a b : Bool) → a ≡ true → a ≡ (a || b)
+either_first true b e = refl
+either_first false b e = absurd cc
+
+pub either_second : (a b : Bool) → a ≡ false → b ≡ (a || b)
+either_second true b e = absurd cc
+either_second false b e = refl
+
 map_more : {A B : Type 0} (f : A → B) (xs : List A) (x : A) → map f (xs ++ x ∷ []) ≡ map f xs ++ f x ∷ []
 map_more f [] x = refl
 map_more f (y ∷ xs) x = ap (λ ys. f y ∷ ys) (map_more f xs x)
 
 -- ---- the row at its beginning and at its end
+
+-- the next card is one of the desk
+pub next_desk : {V : Type 0} {g : Ghosts V Entry} (desk : TableId) (m : ℕ) (all done next rest : List (Card V Entry g)) (card : Card V Entry g)
+    → AreNew desk [] m all → all ≡ done ++ next → next ≡ card ∷ rest → card_desk card ≡ desk
+next_desk desk m all done next rest card new split is =
+    let at = at_next all done rest next card card split is in
+    let count = new.count in
+    let lt = at.1 in
+    (subst (IsNew desk (length done + 1) []) at.0 (new.each (length done) card (omega arith))).of
 
 module _ {N : Type 0} where
   pub none_bound : (desk : TableId) → AreBound {N = N} desk [] []
@@ -161,18 +184,19 @@ module _ {N : Type 0} where
       }
 
   -- the next card is bound to the next listener
-  pub bound_step : {V : Type 0} {g : Ghosts V Entry} (desk : TableId) (m : ℕ) (all done next rest : List (Card V Entry g)) (card : Card V Entry g) (nets : List N) (ws ws' : List (Worker N)) (net : N) (w : Worker N)
-      → AreNew desk [] m all → all ≡ done ++ next → next ≡ card ∷ rest → length done ≡ length nets → AreBound desk nets ws → ws' ≡ ws ++ w ∷ []
-      → w.net ≡ net → w.pass ≡ record { desk = card_desk card; number = card_number card; start = card_start card; seen = card_seen card; visits = card_visits card } → w.failed ≡ false
-      → AreBound desk (nets ++ net ∷ []) ws'
-  bound_step desk m all done next rest card nets ws ws' net w new split is many bound items net_is pass_is whole =
+  pub bound_step : {V : Type 0} {g : Ghosts V Entry} (desk : TableId) (m : ℕ) (all done next rest : List (Card V Entry g)) (card : Card V Entry g) (nets : List N) (ws ws' : List (Worker N)) (net : N) (w : Worker N) (v : Visitor Entry)
+      → AreNew desk [] m all → all ≡ done ++ next → next ≡ card ∷ rest → length done ≡ length nets → AreBound desk nets ws → ws' ≡ ws ++ w ∷ [] → w ≡ record { net = net; pass = v; failed = false }
+      → v.desk ≡ card_desk card → v.number ≡ card_number card → v.start ≡ card_start card → v.seen ≡ card_seen card → v.visits ≡ card_visits card → AreBound desk (nets ++ net ∷ []) ws'
+  bound_step desk m all done next rest card nets ws ws' net w v new split is many bound items w_is d n st se vi =
       let at = at_next all done rest next card card split is in
       let count = new.count in
       let lt = at.1 in
       let here = subst (IsNew desk (length done + 1) []) at.0 (new.each (length done) card (omega arith)) in
-      let numbered : card_number card ≡ length nets + 1 = here.numbered ∙ ap (λ n. n + 1) many in
-      let pass : w.pass ≡ newcomer desk (length nets + 1) = rw (sym here.of, sym numbered, sym here.begun, sym here.saw, sym here.unvisited) pass_is in
-      subst (AreBound desk (nets ++ net ∷ [])) (sym items) (bound_more desk nets ws net w bound (record { net_is = net_is; pass_is = pass; whole = whole }))
+      let numbered : v.number ≡ length nets + 1 = n ∙ here.numbered ∙ ap (λ k. k + 1) many in
+      let pass : v ≡ newcomer desk (length nets + 1) =
+      λ i. record { desk = (d ∙ here.of) i; number = numbered i; start = (st ∙ here.begun) i; seen = (se ∙ here.saw) i; visits = (vi ∙ here.unvisited) i } in
+      let fresh : IsFresh desk (length nets + 1) net w = record { net_is = ap (λ (u : Worker N). u.net) w_is; pass_is = ap (λ (u : Worker N). u.pass) w_is ∙ pass; unfailed = ap (λ (u : Worker N). u.failed) w_is } in
+      subst (AreBound desk (nets ++ net ∷ [])) (sym items) (bound_more desk nets ws net w bound fresh)
 
   pub none_back : {V : Type 0} {g : Ghosts V Entry} → AreBack {N = N} {V = V} {g = g} [] [] [] false
   none_back = record { cards_count = refl; cards_of = λ k w c lt. absurd (omega (arith, lt)); nets_are = refl; failed_is = refl }

@@ -1,5 +1,5 @@
 -- Workers, each with a listener and a pass of one desk: how they begin, what they do, and what they leave.
-use Rattle.std.specs.Prelude.{◌≡◌, ℕ, ◌+◌, ◌<◌, Bool, true, false, List, [], length, map, slice_index_or}
+use Rattle.std.specs.Prelude.{◌≡◌, ℕ, ◌+◌, ◌<◌, Bool, false, List, [], length, map, slice_index_or}
 use Rattle.std.specs.declared.option.Option.{Option}
 use Rattle.std.specs.List.{list_any}
 use Rattle.sc_turn.specs.{TableId}
@@ -28,7 +28,7 @@ module _ {N : Type 0} where
   pub record IsFresh (desk : TableId) (number : ℕ) (net : N) (worker : Worker N) : Type 0 where
     pub net_is : worker.net ≡ net
     pub pass_is : worker.pass ≡ newcomer desk number
-    pub whole : worker.failed ≡ false
+    pub unfailed : worker.failed ≡ false
 
   -- one for each listener, numbered from 1
   pub record AreBound (desk : TableId) (nets : List N) (workers : List (Worker N)) : Type 0 where

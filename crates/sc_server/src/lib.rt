@@ -3,6 +3,8 @@
 
 mod all;
 mod listening;
+mod steady;
 mod worker;
 
 pub use all::{Served, serve_all};
+pub use steady::Steady;

@@ -1,17 +1,42 @@
-use Rattle.std.proofs.Common.{rules, ◌∙◌, ap, sym, length-append, ◌∷◌, [], ◌+◌}
+use Rattle.std.proofs.Common.{◌∙◌}
 use Rattle.std.specs.Vec.Iter.{into_iter_items}
-use Rattle.sc_server.proofs.Workers.{back_step, split_step}
+use Rattle.sc_server.proofs.Workers.{back_step, count_step, either_first, either_second, split_step}
 use Rattle.sc_server.proofs.all.unbind_all.Goals as goal
 
 pub loop-worker-preserved : goal.loop-worker-preserved
 loop-worker-preserved g c =
-    let inv = c.loop-worker.invariant in
+    let now = c.loop-worker in
+    let inv = now.invariant in
+    let worker = c.in-Some.worker in
     let step = c.in-Some.ensures.steps.0 in
+    let parts = c.into_parts-card in
+    let cards = c.push_reserved in
+    let nets = c.push_reserved-in-loop-worker in
     record {
-      split = split_step c.args.workers.items c.loop-worker.yielded _ (into_iter_items c.loop-worker.worker-iterator) c.in-Some.worker inv.split step;
-      back = back_step c.loop-worker.yielded c.in-Some.worker c.loop-worker.cards.items _ _ c.loop-worker.nets.items _ _ c.loop-worker.failed _ _ inv.back c.push_reserved.ensures.items c.push_reserved-2.ensures.items (search rules) c.into_parts.ensures;
-      count = c.push_reserved.ensures.len ∙ ap (λ n. n + 1) inv.count ∙ sym (length-append c.loop-worker.yielded (c.in-Some.worker ∷ []));
-      nets_count = c.push_reserved-2.ensures.len ∙ ap (λ n. n + 1) inv.nets_count ∙ sym (length-append c.loop-worker.yielded (c.in-Some.worker ∷ []));
-      room = c.push_reserved.ensures.capacity ∙ inv.room;
-      nets_room = c.push_reserved-2.ensures.capacity ∙ inv.nets_room;
+      split = split_step c.args.workers.items now.yielded _ (into_iter_items now.worker-iterator) worker inv.split step;
+      back = back_step now.yielded worker now.cards.items _ parts.result.0 now.nets.items _ parts.result.1 now.failed parts.result.2 parts.result.2
+          inv.back cards.ensures.items nets.ensures.items (either_second now.failed parts.result.2 c.if-failed.false) parts.ensures;
+      count = count_step now.yielded worker _ _ cards.ensures.len inv.count;
+      nets_count = count_step now.yielded worker _ _ nets.ensures.len inv.nets_count;
+      room = cards.ensures.capacity ∙ inv.room;
+      nets_room = nets.ensures.capacity ∙ inv.nets_room;
+    }
+
+pub loop-worker-preserved-then-failed : goal.loop-worker-preserved-then-failed
+loop-worker-preserved-then-failed g c =
+    let now = c.loop-worker in
+    let inv = now.invariant in
+    let worker = c.in-Some.worker in
+    let step = c.in-Some.ensures.steps.0 in
+    let parts = c.into_parts-card in
+    let cards = c.push_reserved in
+    let nets = c.push_reserved-in-loop-worker in
+    record {
+      split = split_step c.args.workers.items now.yielded _ (into_iter_items now.worker-iterator) worker inv.split step;
+      back = back_step now.yielded worker now.cards.items _ parts.result.0 now.nets.items _ parts.result.1 now.failed now.failed parts.result.2
+          inv.back cards.ensures.items nets.ensures.items (either_first now.failed parts.result.2 c.if-failed.true) parts.ensures;
+      count = count_step now.yielded worker _ _ cards.ensures.len inv.count;
+      nets_count = count_step now.yielded worker _ _ nets.ensures.len inv.nets_count;
+      room = cards.ensures.capacity ∙ inv.room;
+      nets_room = nets.ensures.capacity ∙ inv.nets_room;
     }

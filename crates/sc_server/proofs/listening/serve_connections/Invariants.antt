@@ -4,5 +4,5 @@ use Rattle.sc_server.proofs.listening.serve_connections.Given as goal
 
 abbrev pub invariant-loop-served : goal.invariant-loop-served
 invariant-loop-served g l =
-    SoFar g.L-In.Source.left g.L-In.Source.ended g.L-In.Source.faults g.L-Out.Sink.written g.L-Out.Sink.faults (api l.base) g.L.Listen.left g.L.Listen.handed_back g.L.Listen.faults
+    SoFar g.L.In.Source.left g.L.In.Source.ended g.L.In.Source.faults g.L.Out.Sink.written g.L.Out.Sink.faults (api l.base) g.L.Listen.left g.L.Listen.handed_back g.L.Listen.faults
     l.served l.fn.net l.net l.fn.pass l.pass
