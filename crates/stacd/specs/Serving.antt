@@ -1,11 +1,11 @@
 -- What a run of the server does.
-use Rattle.std.specs.Prelude.{◌≡◌, ◌≢◌, ℕ, ◌^◌, ◌-◌, min, Bool, true, false, ◌⊎◌, List, [], ◌∷◌, ◌++◌, length, codes, decimal}
+use Rattle.std.specs.Prelude.{◌≡◌, ◌≢◌, ℕ, ◌<◌, ◌^◌, ◌-◌, min, Bool, true, false, ◌⊎◌, List, [], ◌∷◌, ◌++◌, length, slice_index_or, codes, decimal}
 use Rattle.std.specs.declared.option.Option.{Option}
 use Rattle.std.specs.Io.KnownBytes.{Appends, Keeps}
 use Rattle.sc_outside.specs.Causes.{Rose}
 use Rattle.sc_outside.specs.Outside.{AppendsFront}
 use Rattle.sc_history.specs.Views.{Snap}
-use Rattle.sc_shelf.specs.Snapshot.{all_items}
+use Rattle.sc_shelf.specs.Kept.{all_items}
 use Rattle.sc_catalog.specs.declared.entry.Entry.{Entry}
 use Rattle.sc_catalog.specs.Entries.{IsSnapshotOf}
 use Rattle.sc_serve.specs.Service.{api}
@@ -35,6 +35,12 @@ pub record IsLineOf (history : List Entry) (line : List ℕ) : Type 0 where
   pub snap : Snap
   pub is : IsSnapshotOf history snap
   pub line_is : line ≡ line_of (length history) (min (length (all_items snap.parts)) (2 ^ 64 - 1))
+
+-- a listener's count of faults rose
+pub record HasFailed {N : Type 0} (net_faults : N → ℕ) (nets back : List N) : Type 0 where
+  pub place : ℕ
+  pub within : place < length nets
+  pub rose : (n : N) → Rose (net_faults (slice_index_or nets place n)) (net_faults (slice_index_or back place n))
 
 module _ {In Out N : Type 0} (left : In → Option (List ℕ)) (ended : In → Bool) (faults : In → ℕ) (written : Out → Option (List ℕ)) (write_faults : Out → ℕ) (net_left net_back : N → Option (List (In × Out))) (net_faults : N → ℕ) where
   -- the listeners were served over one history

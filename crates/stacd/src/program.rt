@@ -1,7 +1,9 @@
 ghost use Rattle.std.specs.Prelude.{◌≡◌, ℕ, IfOk, length, map};
+ghost use Rattle.sc_outside.specs.Causes.{Rose};
 ghost use Rattle.sc_words.specs.Asks.{AreServeWords};
 ghost use Rattle.sc_words.specs.declared.command.Serving.{Serving as ServingRecord};
 ghost use Rattle.stacd.specs.Program.{CanRun, Runs, RunsCommand, status_of, status_of_connection};
+ghost use Rattle.stacd.specs.Serving.{HasFailed};
 
 use crate::page::{PageEnd, page};
 use crate::serving;
@@ -69,11 +71,16 @@ where
     L::In: Send,
     L::Out: Send,
     requires { CanRun (length nets.old) command }
-    ensures { RunsCommand L.In.left L.In.ended L.In.faults L.Out.written L.Out.faults L.left L.handed_back L.faults
+    ensures ran { RunsCommand L.In.left L.In.ended L.In.faults L.Out.written L.Out.faults L.left L.handed_back L.faults
         (record { left = S.left input.old; ended = S.ended input.old; faults = S.faults input.old }) (record { left = S.left input.new; ended = S.ended input.new; faults = S.faults input.new })
         (record { written = K.written output.old; faults = K.faults output.old }) (record { written = K.written output.new; faults = K.faults output.new })
         (record { written = E.written errors.old; faults = E.faults errors.old }) (record { written = E.written errors.new; faults = E.faults errors.new })
         nets.old nets.new command.entry result }
+
+    // A fault is answered only where there was one in this call.
+    ensures read { result ≡ 4 → Rose (S.faults input.old) (S.faults input.new) }
+    ensures write { result ≡ 5 → Rose (K.faults output.old) (K.faults output.new) }
+    ensures listen { result ≡ 7 → HasFailed L.faults nets.old nets.new }
 {
     match command {
         Command::Page { limit } => {
@@ -129,6 +136,11 @@ where
         (record { written = K.written output.old; faults = K.faults output.old }) (record { written = K.written output.new; faults = K.faults output.new })
         (record { written = E.written errors.old; faults = E.faults errors.old }) (record { written = E.written errors.new; faults = E.faults errors.new })
         nets.old nets.new words.now result }
+
+    // A fault is answered only where there was one in this call.
+    ensures read { result ≡ 4 → Rose (S.faults input.old) (S.faults input.new) }
+    ensures write { result ≡ 5 → Rose (K.faults output.old) (K.faults output.new) }
+    ensures listen { result ≡ 7 → HasFailed L.faults nets.old nets.new }
 {
     let Ok(lent) = lent(alloc, words) else {
         tell_no_memory(errors);

@@ -1,3 +1,5 @@
+ghost use Rattle.std.specs.Prelude.{◌≡◌, IfOk, vec_len};
+
 use crate::program::stacd;
 use sc_outside::{MemListen, MemSink, MemSource, Seq};
 use sc_page::Text;
@@ -12,27 +14,36 @@ const LINE: &[u8] =
 const PAGE: &[u8] =
     b"{\"type\":\"FeatureCollection\",\"features\":[{\"type\":\"Feature\",\"collection\":\"s2\",\"id\":\"b\",\"geometry\":null,\"properties\":{\"datetime\":\"2024-01-02T00:00:00Z\"}}],\"numberReturned\":1,\"links\":[]}\n";
 
-/// The words `page 3`.
-fn words(alloc: Global) -> Result<Vec<Text>, AllocError> {
+const USAGE: &[u8] = b"usage: stacd page LIMIT, pipe BASE, serve PORT WORKERS TIGHTENERS CONNS\n";
+
+/// The word of a command and the word behind it.
+fn two_words(alloc: Global, name: &str, word: &str) -> Result<Vec<Text>, AllocError>
+    ensures { IfOk result (λ words. vec_len words ≡ 2) }
+{
     let mut words = Vec::new(alloc);
-    words.push(Text::from_str(alloc, "page")?)?;
-    words.push(Text::from_str(alloc, "3")?)?;
+    words.push(Text::from_str(alloc, name)?)?;
+    words.push(Text::from_str(alloc, word)?)?;
     Ok(words)
 }
 
-/// Runs `page 3` over memory, and answers the status, the output and what was told.
+/// A source of these bytes, some of whose calls fail.
+fn source_of(alloc: Global, bytes: &[u8], failing: &[u64]) -> Result<MemSource, AllocError> {
+    Ok(MemSource::new(
+        Seq::of(Vec::from_slice(alloc, bytes)?),
+        Seq::of(Vec::from_slice(alloc, failing)?),
+    ))
+}
+
+/// Runs two words over memory, and answers the status, the output and what was told.
 fn run<R: Threads + Wait + Sync + AllocGlobal>(
     rt: &R,
-    bytes: &[u8],
-    failing_reads: &[u64],
+    name: &str,
+    word: &str,
+    mut input: MemSource,
     room: u64,
 ) -> Result<(u8, MemSink, MemSink), AllocError> {
     let alloc = rt.alloc();
-    let words = words(alloc)?;
-    let mut input = MemSource::new(
-        Seq::of(Vec::from_slice(alloc, bytes)?),
-        Seq::of(Vec::from_slice(alloc, failing_reads)?),
-    );
+    let words = two_words(alloc, name, word)?;
     let mut output = MemSink::new(alloc, room, Seq::new(alloc))?;
     let mut errors = MemSink::new(alloc, 1000, Seq::new(alloc))?;
     let mut nets: Seq<MemListen> = Seq::new(alloc);
@@ -50,7 +61,8 @@ fn run<R: Threads + Wait + Sync + AllocGlobal>(
 
 #[test]
 fn a_line_is_paged(rt: HostRuntime) -> Result<(), Fail> {
-    let (status, output, errors) = run(&rt, LINE, &[], 1000)?;
+    let input = source_of(rt.alloc(), LINE, &[])?;
+    let (status, output, errors) = run(&rt, "page", "3", input, 1000)?;
     assert_eq!(rt; status, 0);
     assert_eq!(rt; output.bytes(), PAGE);
     assert_eq!(rt; errors.bytes().len(), 0);
@@ -59,7 +71,8 @@ fn a_line_is_paged(rt: HostRuntime) -> Result<(), Fail> {
 
 #[test]
 fn a_read_that_fails_is_told(rt: HostRuntime) -> Result<(), Fail> {
-    let (status, output, errors) = run(&rt, LINE, &[1], 1000)?;
+    let input = source_of(rt.alloc(), LINE, &[1])?;
+    let (status, output, errors) = run(&rt, "page", "3", input, 1000)?;
     assert_eq!(rt; status, 4);
     assert_eq!(rt; output.bytes().len(), 0);
     assert_eq!(rt; errors.bytes(), b"stacd: read fault\n".as_slice());
@@ -68,7 +81,8 @@ fn a_read_that_fails_is_told(rt: HostRuntime) -> Result<(), Fail> {
 
 #[test]
 fn a_write_that_fails_is_told(rt: HostRuntime) -> Result<(), Fail> {
-    let (status, output, errors) = run(&rt, LINE, &[], 10)?;
+    let input = source_of(rt.alloc(), LINE, &[])?;
+    let (status, output, errors) = run(&rt, "page", "3", input, 10)?;
     assert_eq!(rt; status, 5);
     assert_eq!(rt; output.bytes().len(), 0);
     assert_eq!(rt; errors.bytes(), b"stacd: write fault\n".as_slice());
@@ -77,8 +91,29 @@ fn a_write_that_fails_is_told(rt: HostRuntime) -> Result<(), Fail> {
 
 #[test]
 fn a_bad_line_before_a_read_fault_is_told(rt: HostRuntime) -> Result<(), Fail> {
-    let (status, _, errors) = run(&rt, b"{}\n", &[1], 1000)?;
+    let input = source_of(rt.alloc(), b"{}\n", &[1])?;
+    let (status, _, errors) = run(&rt, "page", "3", input, 1000)?;
     assert_eq!(rt; status, 3);
     assert_eq!(rt; errors.bytes(), b"stacd: bad line 1\n".as_slice());
+    Ok(())
+}
+
+#[test]
+fn words_that_are_no_command_are_told_the_usage(rt: HostRuntime) -> Result<(), Fail> {
+    let input = source_of(rt.alloc(), LINE, &[])?;
+    let (status, output, errors) = run(&rt, "serve", "8080", input, 1000)?;
+    assert_eq!(rt; status, 2);
+    assert_eq!(rt; output.bytes().len(), 0);
+    assert_eq!(rt; errors.bytes(), USAGE);
+    Ok(())
+}
+
+#[test]
+fn a_pipe_over_nothing_is_done(rt: HostRuntime) -> Result<(), Fail> {
+    let input = source_of(rt.alloc(), b"", &[])?;
+    let (status, output, errors) = run(&rt, "pipe", "http://h", input, 1000)?;
+    assert_eq!(rt; status, 0);
+    assert_eq!(rt; output.bytes().len(), 0);
+    assert_eq!(rt; errors.bytes().len(), 0);
     Ok(())
 }

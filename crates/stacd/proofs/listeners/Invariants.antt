@@ -1,0 +1,5 @@
+use Rattle.std.proofs.Common.{◌≡◌, ◌≤◌, length, vec_len}
+use Rattle.stacd.proofs.listeners.Given as goal
+
+abbrev pub invariant-loop : goal.invariant-loop
+invariant-loop l = (vec_len l.nets ≡ l.counter) × (l.counter ≤ l.end) × (l.end ≡ l.fn.serving.workers)
