@@ -5,7 +5,7 @@ ghost use Rattle.stacd.specs.Serving.{base_start, base_of, loads_start, items_mi
 use arrayvec::ArrayString;
 use itoa::Buffer;
 use sc_base::{Seq, Text};
-use sc_desk::Catalogue;
+use sc_catalog::Catalogue;
 use sc_outside::{Listen, Sink, write_all};
 use sc_server::{Served, serve_all};
 use sc_words::Serving;
