@@ -9,9 +9,10 @@ use crate::page::{PageEnd, page};
 use crate::serving;
 use crate::serving::serve;
 use crate::tell::{tell_connection, tell_end, tell_no_memory, tell_serving, tell_usage};
-use sc_outside::{Listen, Seq, Sink, Source};
+use sc_outside::{Seq, Sink, Source};
 use sc_page::Text;
 use sc_serve::{ConnEnd, pipe};
+use sc_server::Steady;
 use sc_words::{Command, command_of};
 use std::alloc::{AllocError, Global};
 use std::sync::Wait;
@@ -58,7 +59,7 @@ pub(crate) fn lent<'a>(alloc: Global, words: &'a [Text]) -> Result<Vec<&'a str>,
 }
 
 /// Does what a command asks for, and answers its status.
-fn run<R: Threads + Wait + Sync, S: Source, K: Sink, E: Sink, L: Listen + Send + Drop>(
+fn run<R: Threads + Wait + Sync, S: Source, K: Sink, E: Sink, L: Steady + Send + Drop>(
     rt: &R,
     alloc: Global,
     command: Command<'_>,
@@ -117,7 +118,7 @@ pub fn stacd<
     S: Source,
     K: Sink,
     E: Sink,
-    L: Listen + Send + Drop,
+    L: Steady + Send + Drop,
 >(
     rt: &R,
     alloc: Global,
