@@ -17,7 +17,7 @@ use Rattle.sc_item.specs.declared.fault.ItemFault.TheVariants as item
 use Rattle.sc_http.specs.declared.fault.HeadFault.{HeadFault}
 use Rattle.sc_http.specs.declared.fault.HeadFault.TheVariants as head
 use Rattle.sc_http.specs.declared.fault.LengthFault.{LengthFault}
-use Rattle.sc_http.specs.declared.fault.LengthFault.TheVariants as length
+use Rattle.sc_http.specs.declared.fault.LengthFault.TheVariants as framing
 use Rattle.sc_load.specs.declared.fault.PrepareFault.{PrepareFault}
 use Rattle.sc_load.specs.declared.fault.PrepareFault.TheVariants as prepare
 use Rattle.sc_load.specs.declared.fault.LoadFault.{LoadFault}
@@ -99,9 +99,9 @@ head_told head.TooLarge = codes "TooLarge"
 
 -- of the lengths of bodies
 abbrev pub length_told : LengthFault → List ℕ
-length_told length.Coded = codes "Coded"
-length_told length.Unreadable = codes "Unreadable"
-length_told length.TooLong = codes "TooLong"
+length_told framing.Coded = codes "Coded"
+length_told framing.Unreadable = codes "Unreadable"
+length_told framing.TooLong = codes "TooLong"
 
 -- what is told of a fault that need not be there
 abbrev pub if_told : {F : Type 0} → (F → List ℕ) → Option F → List ℕ
@@ -119,9 +119,9 @@ head_refused head.Malformed = refusal 400 (codes "BadHead") (head_told head.Malf
 head_refused head.TooLarge = refusal 431 (codes "BadHead") (head_told head.TooLarge)
 
 abbrev pub length_refused : LengthFault → Refusal
-length_refused length.Coded = refusal 501 (codes "BadLength") (length_told length.Coded)
-length_refused length.Unreadable = refusal 400 (codes "BadLength") (length_told length.Unreadable)
-length_refused length.TooLong = refusal 413 (codes "BadLength") (length_told length.TooLong)
+length_refused framing.Coded = refusal 501 (codes "BadLength") (length_told framing.Coded)
+length_refused framing.Unreadable = refusal 400 (codes "BadLength") (length_told framing.Unreadable)
+length_refused framing.TooLong = refusal 413 (codes "BadLength") (length_told framing.TooLong)
 
 -- of trees of which no load is read: the item's place, counted from 0, and its fault; or how many items there are
 abbrev pub prepare_refused : PrepareFault → Refusal
