@@ -3,7 +3,13 @@ use sc_http::Header;
 use std::test::Fail;
 
 /// A request with a body of the length that it tells, and with a revision that was seen.
-fn request(rt: &HostRuntime, method: &str, target: &str, seen: &str, body: &str) -> Result<Request, Fail> {
+fn request(
+    rt: &HostRuntime,
+    method: &str,
+    target: &str,
+    seen: &str,
+    body: &str,
+) -> Result<Request, Fail> {
     let alloc = rt.alloc();
     let mut headers = Seq::new(alloc);
     headers.push(Header {
@@ -56,14 +62,38 @@ fn jobs(rt: HostRuntime) -> Result<(), Fail> {
         ("GET", "/", "7", "", "landing"),
         ("HEAD", "/", "x", "", "NoMethod"),
         ("GET", "/%2F", "7", "", "NoRoute"),
-        ("GET", "/collections?a=%ff", "18446744073709551615", "", "collections"),
+        (
+            "GET",
+            "/collections?a=%ff",
+            "18446744073709551615",
+            "",
+            "collections",
+        ),
         ("GET", "/collections", "18446744073709551616", "", "BadSeen"),
         ("POST", "/collections", "7", "{\"id\":\"s1\"}", "add"),
         ("POST", "/collections", "x", "{", "BadBody"),
         ("POST", "/collections", "x", "{}", "BadLoad"),
-        ("POST", "/collections/a%2Fitems/items", "007", none, "insert"),
-        ("POST", "/collections/a/items?upsert=true&upsert=false", "7", none, "upsert"),
-        ("POST", "/collections/a/items?upsert=false&upsert=true", "7", none, "insert"),
+        (
+            "POST",
+            "/collections/a%2Fitems/items",
+            "007",
+            none,
+            "insert",
+        ),
+        (
+            "POST",
+            "/collections/a/items?upsert=true&upsert=false",
+            "7",
+            none,
+            "upsert",
+        ),
+        (
+            "POST",
+            "/collections/a/items?upsert=false&upsert=true",
+            "7",
+            none,
+            "insert",
+        ),
         ("PATCH", "/collections/a/items/b", "7", "{}", "patch"),
         ("DELETE", "/collections/a/items/b", "", "", "BadSeen"),
     ];

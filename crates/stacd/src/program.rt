@@ -113,13 +113,7 @@ where
 /// output failed. 6: memory was wanting. 7: a listener failed. But for 0 it tells a text on `errors`; where that fails, the
 /// status stays. The condition is that there are as many listeners as a command `serve` asks workers for. It waits where
 /// it serves.
-pub fn stacd<
-    R: Threads + Wait + Sync,
-    S: Source,
-    K: Sink,
-    E: Sink,
-    L: Steady + Send + Drop,
->(
+pub fn stacd<R: Threads + Wait + Sync, S: Source, K: Sink, E: Sink, L: Steady + Send + Drop>(
     rt: &R,
     alloc: Global,
     words: &[Text],

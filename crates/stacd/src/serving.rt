@@ -117,11 +117,13 @@ where
     let listeners = mem::replace(nets, Seq::new(alloc));
     match serve_all(rt, alloc, &base, listeners, serving.connections) {
         Err(_) => ServeEnd::OutOfMemory,
-        Ok(Served {
-            catalogue,
-            nets: back,
-            listen_failed,
-        }) => {
+        Ok(
+            Served {
+                catalogue,
+                nets: back,
+                listen_failed,
+            },
+        ) => {
             *nets = back;
             let Ok(line) = line_of_catalogue(alloc, &catalogue) else {
                 return ServeEnd::OutOfMemory;

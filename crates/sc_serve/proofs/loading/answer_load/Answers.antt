@@ -6,9 +6,12 @@ use Rattle.sc_serve.proofs.loading.answer_load.Goals as goal
 
 pub returns-in-None : goal.returns-in-None
 returns-in-None g c base old stands =
-    let y = c.try_load.ensures base old stands in
-    (y.0, y.1, subst (λ s. Handles base c.args.close (Ok (record { seen = s; work = Of.Load c.args.load })) c.try_load.result old y.0) (sym c.in-None.is)
-    (tried base c.args.close c.args.load c.try_load.result old y.0 y.2))
+    let y = c.try_load.ensures base old stands in (
+      y.0,
+      y.1,
+      subst (λ s. Handles base c.args.close (Ok (record { seen = s; work = Of.Load c.args.load })) c.try_load.result old y.0) (sym c.in-None.is)
+          (tried base c.args.close c.args.load c.try_load.result old y.0 y.2),
+    )
 
 pub returns-in-Some : goal.returns-in-Some
 returns-in-Some g c base old stands =

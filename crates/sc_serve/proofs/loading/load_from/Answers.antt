@@ -13,9 +13,12 @@ returns-in_err-said g c base old stands = let x = c.in_ok-snapshot.ensures old s
 
 pub returns-then-revision-stated : goal.returns-then-revision-stated
 returns-then-revision-stated g c base old stands =
-    let x = c.in_ok-snapshot.ensures old stands in
-    (x.0, x.1, is_told_behind base c.args.close c.args.stated c.args.load old x.0 x.2.turn c.reply_text.result c.revision-revision.result c.if-revision-stated.true (c.revision-revision.ensures ∙ x.2.is.revision_is)
-    (IfOk-weaker c.reply_text.result _ _ (λ text t. t ∙ ap (λ said. said_text said c.revision-revision.result c.args.close) c.in_ok-said.ensures) c.reply_text.ensures))
+    let x = c.in_ok-snapshot.ensures old stands in (
+      x.0,
+      x.1,
+      is_told_behind base c.args.close c.args.stated c.args.load old x.0 x.2.turn c.reply_text.result c.revision-revision.result c.if-revision-stated.true (c.revision-revision.ensures ∙ x.2.is.revision_is)
+          (IfOk-weaker c.reply_text.result _ _ (λ text t. t ∙ ap (λ said. said_text said c.revision-revision.result c.args.close) c.in_ok-said.ensures) c.reply_text.ensures),
+    )
 
 pub returns : goal.returns
 returns g c base old stands =

@@ -14,7 +14,7 @@ returns-in-Ok g c base old stands =
     (x.0, x.1, accepted base c.args.close c.args.load c.in-Ok.published old x.0 c.makes-made.result c.count_of-items.result c.text.result x.2 c.makes-made.ensures c.count_of-items.ensures c.text.ensures)
 
 pub returns-in_err-said-in-Err : goal.returns-in_err-said-in-Err
-returns-in_err-said-in-Err g c base old stands = 
+returns-in_err-said-in-Err g c base old stands =
     let x = c.in-Err.ensures old stands in
     let p = err_from_is_err_and c.from_residual-in_err-said-in-Err.result c.from_residual-in_err-said-in-Err.ensures.1 in
     rw p.1 (x.0, x.1, inr x.2.turn)

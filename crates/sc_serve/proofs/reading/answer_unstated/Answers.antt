@@ -12,9 +12,12 @@ returns-in_err-fixed g c old stands =
     rw p.1 (old, stands, inl refl)
 
 pub returns-in-Some : goal.returns-in-Some
-returns-in-Some g c old stands =
-    (old, stands, fixed_said c.args.base.now c.args.close c.args.work.now old c.in-Some.text c.seen.result c.reply_text.result (sym c.in-Some.is ∙ c.in_ok-fixed.ensures) (c.seen.ensures old stands)
-    (IfOk-weaker c.reply_text.result _ _ (λ text t. t ∙ ap (λ said. said_text said c.seen.result c.args.close) c.of-said.ensures) c.reply_text.ensures))
+returns-in-Some g c old stands = (
+  old,
+  stands,
+  fixed_said c.args.base.now c.args.close c.args.work.now old c.in-Some.text c.seen.result c.reply_text.result (sym c.in-Some.is ∙ c.in_ok-fixed.ensures) (c.seen.ensures old stands)
+      (IfOk-weaker c.reply_text.result _ _ (λ text t. t ∙ ap (λ said. said_text said c.seen.result c.args.close) c.of-said.ensures) c.reply_text.ensures),
+)
 
 pub answer_by_snapshot-requires-clause-looks : goal.answer_by_snapshot-requires-clause-looks
 answer_by_snapshot-requires-clause-looks g c = looks c.args.base.now c.args.work.now c.requires (sym c.in-None.is ∙ c.in_ok-fixed.ensures)
