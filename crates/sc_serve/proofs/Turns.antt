@@ -32,7 +32,7 @@ after old own = record { desk = old.desk; number = old.number; start = old.start
 nobody : (v : Visitor Entry) → Knows by v.number v.seen v.seen
 nobody v = record { rest = []; whole = sym (append-nil v.seen); others = All-nil (λ e. by e ≢ v.number) }
 
-takes : (own : List Entry) (old : Visitor Entry) → TakesTurn by own old (after old own)
+abbrev takes : (own : List Entry) (old : Visitor Entry) → TakesTurn by own old (after old own)
 takes own old = record { same = record { desk_is = refl; number_is = refl; start_is = refl }; found = old.seen; knows = nobody old; left = refl; visit = refl }
 
 stays : (entries : List Entry) (old : Visitor Entry) → IsAlone entries old → IsAlone entries (after old [])

@@ -1,4 +1,4 @@
 use Rattle.sc_serve.proofs.connection.pipe.Given as goal
 
-abbrev pub ghosts-serve_desk-L-Ledger : goal.ghosts-serve_desk-L-Ledger
-ghosts-serve_desk-L-Ledger g a = record { name = a.blank.name; parts = a.blank.parts }
+abbrev pub ghosts-serve_desk : goal.ghosts-serve_desk
+ghosts-serve_desk g a = record { name = a.blank.name; parts = a.blank.parts }
