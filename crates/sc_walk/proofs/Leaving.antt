@@ -1,5 +1,5 @@
 -- The items of a part that is left out.
-use Rattle.std.proofs.Common.{◌≡◌, ◌<◌, ◌+◌, ◌&&◌, Bool, true, false, ℕ, List, [], ◌++◌, filter, length, map, get_or, refl, sym, ap, ◌∙◌, subst, arith, append-nil, true≢false}
+use Rattle.std.proofs.Common.{◌≡◌, ◌<◌, ◌+◌, ◌&&◌, Bool, true, false, ℕ, List, [], ◌++◌, filter, length, get_or, refl, sym, ap, ◌∙◌, subst, arith, append-nil, true≢false}
 use Rattle.std.proofs.lemmas.List.{get_or-map, length-map}
 use Rattle.std.proofs.lemmas.List.Elements.{filter-append, recursion_from_All}
 use Rattle.sqlite_trees.proofs.ListLemmas.{filter_none}
@@ -49,6 +49,12 @@ reach_covered : (part : Part) (i : ℕ) (item : Feature) → i < length part.ite
 reach_covered part i item lt covered =
     let n = length-map part.items reach in
     subst (Covers part.bounds) (get_or-map reach part.items i item (reach item) lt) (covered i (reach item) (omega (arith, n, lt)))
+
+-- a part isn't opened where its name and its bounds don't match
+pub not_opened : (need : Need) (part : Part) (bounds : Extent) (name : PartName) (matches : Bool) → matches ≡ may_match need bounds name → bounds ≡ part.bounds → name ≡ part.name
+    → matches ≡ false → opens need part ≡ false
+not_opened need part bounds name matches e its_bounds its_name unmatched =
+    sym (e ∙ ap (may_match need bounds) its_name ∙ ap (λ b. may_match need b part.name) its_bounds) ∙ unmatched
 
 -- no item of a part that isn't opened is asked for
 pub none_asked : (asked : Asked) (need : Need) (part : Part) → IsNeedOf asked.select need → IsCovered part → versions.IsKept (version_of part) → opens need part ≡ false

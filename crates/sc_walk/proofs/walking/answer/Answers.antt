@@ -2,7 +2,6 @@ use Rattle.std.proofs.Common.{◌∙◌, subst, sym, ap}
 use Rattle.std.specs.List.{All}
 use Rattle.sc_expr.specs.Query.{Asked}
 use Rattle.sc_item.specs.Names.{AreApart}
-use Rattle.sc_history.specs.Part.{Part}
 use Rattle.sc_history.proofs.Covering.{snapshot_apart, snapshot_covers}
 use Rattle.sc_shelf.specs.Kept.{all_items}
 use Rattle.sc_page.specs.Kept.{HasFound}

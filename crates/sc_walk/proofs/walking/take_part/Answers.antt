@@ -1,9 +1,7 @@
-use Rattle.std.proofs.Common.{◌≡◌, ◌++◌, ◌∙◌, false, subst, sym, ap}
+use Rattle.std.proofs.Common.{◌++◌, ◌∙◌, subst, sym, ap}
 use Rattle.sc_item.specs.Names.{AreApart}
 use Rattle.sc_page.specs.Kept.{HasFound}
-use Rattle.sc_need.specs.Match.{may_match}
-use Rattle.sc_walk.specs.Opened.{opens}
-use Rattle.sc_walk.proofs.Leaving.{found_without, none_asked}
+use Rattle.sc_walk.proofs.Leaving.{found_without, none_asked, not_opened}
 use Rattle.sc_walk.proofs.walking.take_part.Goals as goal
 
 pub returns-then-not-may_match : goal.returns-then-not-may_match
@@ -11,9 +9,7 @@ returns-then-not-may_match g c before apart found =
     let asked = c.args.search.now in
     let need = c.args.need.now in
     let part = c.args.part.now in
-    let asks : c.may_match.result ≡ opens need part =
-    c.may_match.ensures ∙ ap (may_match need c.bounds.result) c.name.ensures ∙ ap (λ b. may_match need b part.name) c.bounds.ensures in
-    let unmatched = sym asks ∙ c.if-not-may_match.true in
+    let unmatched = not_opened need part c.bounds.result c.name.result.now c.may_match.result c.may_match.ensures c.bounds.ensures c.name.ensures c.if-not-may_match.true in
     found_without asked c.args.first.now before part.items (none_asked asked need part c.requires.need c.requires.covered c.version-version.ensures.kept unmatched) found
 
 pub returns : goal.returns
