@@ -1,8 +1,6 @@
 -- The items of one part more.
 use Rattle.std.proofs.Common.{◌≡◌, ◌<◌, ◌+◌, ℕ, List, [], ◌∷◌, ◌++◌, take, drop, length, get_or, refl, sym, ap, ◌∙◌, subst, append_assoc, append-nil}
-use Rattle.std.specs.List.{flat_map}
 use Rattle.std.proofs.lemmas.List.{take_more, take-append-drop}
-use Rattle.sc_item.specs.Feature.{Feature}
 use Rattle.sc_item.specs.Names.{AreApart}
 use Rattle.sc_history.specs.Part.{Part}
 use Rattle.sc_shelf.specs.Kept.{all_items}
