@@ -1,7 +1,7 @@
 -- What a snapshot has of the content of its history.
-use Rattle.std.proofs.Common.{◌≡◌, ℕ, List, length, map, IsPermutation, refl, sym, ap, ◌∙◌, subst, arith}
+use Rattle.std.proofs.Common.{◌≡◌, ℕ, List, map, IsPermutation, ap, ◌∙◌, subst, arith}
 use Rattle.std.proofs.lemmas.List.{length-reverse, length-map}
-use Rattle.sc_history.specs.Content.{Collection, item_in}
+use Rattle.sc_history.specs.Content.{item_in}
 use Rattle.sc_history.specs.Changes.{Change}
 use Rattle.sc_history.specs.History.{back, replay}
 use Rattle.sc_history.specs.Sound.{Stand}

@@ -1,5 +1,5 @@
 -- The order of the items of which a page is made is of no account.
-use Rattle.std.proofs.Common.{◌≡◌, ℕ, nat_lt, if◌then◌else◌, List, length, filter, find, Option, Some, None, IsPermutation, refl, sym, ap, ◌∙◌}
+use Rattle.std.proofs.Common.{ℕ, nat_lt, if◌then◌else◌, List, find, Option, Some, None, IsPermutation, sym, ap, ◌∙◌}
 use Rattle.std.proofs.lemmas.List.Sorted.{IsPermutation-sym, IsPermutation-trans, length_permutation}
 use Rattle.sqlite_keyed.proofs.ListLemmas.{IsPermutation-filter}
 use Rattle.sc_item.specs.Feature.{Feature}

@@ -1,5 +1,5 @@
 -- What one request does, from what its parts do.
-use Rattle.std.proofs.Common.{◌≡◌, ◌≢◌, ℕ, ◌<◌, ◌≤◌, ◌⊎◌, Bool, true, false, nat_lt, List, [], ◌∷◌, ◌++◌, length, map, find, Option, Some, None, Result, Ok, Err, refl, sym, ap, ◌∙◌, subst, arith, inl, inr, option_map, ⊎_elim, length-append, lt-ltb, le-ltb}
+use Rattle.std.proofs.Common.{◌≡◌, ◌≢◌, ℕ, ◌<◌, ◌≤◌, Bool, true, false, List, [], ◌∷◌, length, Option, Some, None, Result, Ok, Err, refl, sym, ap, ◌∙◌, subst, arith, inl, inr, option_map, ⊎_elim, length-append, lt-ltb, le-ltb}
 use Rattle.std.specs.Prelude.{IfOk}
 use Rattle.sc_http.specs.declared.request.Request.{Request}
 use Rattle.sc_http.specs.Reply.{reply_bytes}
@@ -7,12 +7,9 @@ use Rattle.sc_http.specs.declared.fault.HttpEnd.{HttpEnd}
 use Rattle.sc_load.specs.declared.load.Load.{Load}
 use Rattle.sc_catalog.specs.declared.entry.Entry.{Entry}
 use Rattle.sc_catalog.specs.declared.entry.Published.{Published}
-use Rattle.sc_catalog.specs.Entries.{by, entry_of, IsSnapshotOf, loads_of}
-use Rattle.sc_load.specs.declared.fault.LoadFault.{LoadFault}
+use Rattle.sc_catalog.specs.Entries.{by, entry_of}
 use Rattle.sc_load.specs.declared.fault.LoadFault.TheVariants as Fault
-use Rattle.sc_history.specs.Taken.{Refuses}
-use Rattle.sc_history.specs.Views.{Snap}
-use Rattle.sc_visit.specs.Visits.{Visitor, TakesTurn, TakesTurns}
+use Rattle.sc_visit.specs.Visits.{Visitor, TakesTurn}
 use Rattle.sc_visit.proofs.Turning.{turn_grows}
 use Rattle.sc_desk.specs.declared.calls.LoadRefused.{LoadRefused}
 use Rattle.sc_session.specs.declared.ask.Ask.TheVariants.{Nothing, Look}
@@ -27,10 +24,9 @@ use Rattle.sc_refusal.specs.declared.fault.RouteFault.{RouteFault}
 use Rattle.sc_refusal.specs.declared.fault.RouteFault.TheVariants as Route
 use Rattle.sc_refusal.specs.Refusals.{load_refused}
 use Rattle.sc_said.specs.Said.{Saying, reply_of, accepted_of, behind, json}
-use Rattle.sc_serve.specs.Desks.{TakesSnapshot, TakesLoad, RefusesLoad, TriesLoad}
-use Rattle.sc_serve.specs.Replies.{makes, count_of, of_refusal, of_route, of_end, is_behind, is_load, fixed, SaysOf, Says, SaysTo, SaysOfLoad, IsLoadRefused}
-use Rattle.sc_serve.specs.Service.{api, refusal_of, asks, asks_of, asks_load, IsReadAs, IsDone, Handles, IsTried, Tries}
-use Rattle.sc_visit.specs.Visits.{IsSame}
+use Rattle.sc_serve.specs.Desks.{TakesLoad, RefusesLoad}
+use Rattle.sc_serve.specs.Replies.{makes, count_of, of_refusal, of_route, of_end, is_behind, is_load, fixed, SaysOf, Says}
+use Rattle.sc_serve.specs.Service.{api, refusal_of, asks_of, IsReadAs, IsDone, Handles, IsTried, Tries}
 
 abbrev pub said_text : Saying → ℕ → Bool → List ℕ
 said_text said revision close = reply_bytes (reply_of said revision close)

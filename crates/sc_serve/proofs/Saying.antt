@@ -1,8 +1,6 @@
 -- What is said of a work by a snapshot, as what is said of it by the history.
-use Rattle.std.proofs.Common.{◌≡◌, ℕ, List, find, map, Option, Some, None, Bool, false, IsPermutation, refl, sym, ap, ◌∙◌, subst}
+use Rattle.std.proofs.Common.{◌≡◌, ℕ, List, find, map, Option, false, ap, ◌∙◌, subst}
 use Rattle.std.proofs.lemmas.List.Sorted.{IsPermutation-sym}
-use Rattle.sc_json.specs.declared.tree.Json.{Json}
-use Rattle.sc_item.specs.Feature.{Feature}
 use Rattle.sc_history.specs.Content.{Collection, is_called, item_in}
 use Rattle.sc_history.specs.History.{replay}
 use Rattle.sc_history.specs.Views.{Snap}

@@ -1,24 +1,20 @@
 -- What a handled request tells, by what it was read as.
-use Rattle.std.proofs.Common.{◌≡◌, ◌≢◌, ℕ, ◌≤◌, ◌⊎◌, Bool, true, false, nat_lt, List, length, find, Option, Some, None, Result, Ok, Err, refl, sym, ap, ◌∙◌, subst, arith, inl, inr, ltb-false}
+use Rattle.std.proofs.Common.{◌≡◌, ℕ, ◌≤◌, ◌⊎◌, Bool, true, false, nat_lt, List, length, find, Option, Some, None, Ok, refl, sym, ap, ◌∙◌, subst, arith, inl, inr, ltb-false}
 use Rattle.sc_http.specs.declared.request.Request.{Request}
 use Rattle.sc_http.specs.declared.reply.Reply.{Reply}
-use Rattle.sc_item.specs.Feature.{Feature}
 use Rattle.sc_history.specs.Content.{Collection, is_called}
 use Rattle.sc_history.specs.Changes.{Change}
 use Rattle.sc_history.specs.History.{replay}
 use Rattle.sc_catalog.specs.declared.entry.Entry.{Entry}
 use Rattle.sc_catalog.specs.Entries.{TellsOf}
 use Rattle.sc_expr.specs.Query.{Asked}
-use Rattle.sc_sort.specs.Keys.{Keys}
 use Rattle.sc_page.specs.declared.links.Links.{Links}
 use Rattle.sc_visit.specs.Visits.{Visitor}
 use Rattle.sc_session.specs.Handling.{Handles}
-use Rattle.sc_refusal.specs.declared.fault.RouteFault.{RouteFault}
-use Rattle.sc_route.specs.declared.job.Job.{Job}
 use Rattle.sc_route.specs.declared.job.Work.{Work}
 use Rattle.sc_route.specs.declared.job.Work.TheVariants as Of
-use Rattle.sc_said.specs.Said.{Saying, reply_of, behind, no_collection}
-use Rattle.sc_serve.specs.Replies.{is_behind, Says, SaysOf, OfSearch, OfSearchIn, TellsPage, IsReply, IsPageOf}
+use Rattle.sc_said.specs.Said.{Saying, reply_of, behind}
+use Rattle.sc_serve.specs.Replies.{is_behind, Says, OfSearch, OfSearchIn, TellsPage, IsReply, IsPageOf}
 use Rattle.sc_serve.specs.Service.{api}
 
 module _ (close : Bool) (entries : List Entry) (asked : Asked) (links : Links) (said : Saying) (reply : Reply) (is : reply ≡ reply_of said (length entries) close) (ok : reply.status ≡ 200) where

@@ -1,5 +1,5 @@
 -- What the calls of a desk do for the one pass that takes its turns there.
-use Rattle.std.specs.Prelude.{◌≡◌, ℕ, List, [], length, Result, Ok, Err, IfOk, All}
+use Rattle.std.specs.Prelude.{◌≡◌, List, [], length, Result, Ok, Err, IfOk, All}
 use Rattle.sc_load.specs.declared.load.Load.{Load}
 use Rattle.sc_history.specs.Taken.{Refuses}
 use Rattle.sc_history.specs.Views.{Snap}

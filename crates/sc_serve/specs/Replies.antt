@@ -1,14 +1,12 @@
 -- What is replied to a request, by what it was read as and by the history: its content, which loads it takes, and its length.
 use Rattle.std.specs.Prelude.{◌≡◌, ◌≢◌, ℕ, Bool, true, false, nat_lt, List, length, find, map, Option, Some, None, Result, Ok, Err}
-use Rattle.sc_json.specs.declared.tree.Json.{Json}
 use Rattle.sc_json.specs.Compact.{compact}
-use Rattle.sc_http.specs.declared.request.Request.{Request}
 use Rattle.sc_http.specs.declared.reply.Reply.{Reply}
 use Rattle.sc_http.specs.declared.fault.HttpEnd.{HttpEnd}
 use Rattle.sc_http.specs.declared.fault.HttpEnd.TheVariants as End
 use Rattle.sc_item.specs.Feature.{Feature}
 use Rattle.sc_load.specs.declared.load.Load.{Load}
-use Rattle.sc_load.specs.declared.load.Load.TheVariants.{AddCollection, DropCollection, Insert, Upsert, Replace, Patch, Delete}
+use Rattle.sc_load.specs.declared.load.Load.TheVariants.{AddCollection, DropCollection, Insert, Upsert}
 use Rattle.sc_load.specs.declared.fault.LoadFault.{LoadFault}
 use Rattle.sc_load.specs.declared.fault.LoadFault.TheVariants as Fault
 use Rattle.sc_history.specs.Content.{Collection, Content, is_called, item_in}

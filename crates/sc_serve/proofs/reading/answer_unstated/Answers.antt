@@ -1,8 +1,5 @@
-use Rattle.std.proofs.Common.{inl, refl, sym, ◌∙◌, subst, None, Some, ap}
-use Rattle.std.specs.Prelude.{IfOk}
+use Rattle.std.proofs.Common.{inl, refl, sym, ◌∙◌, ap}
 use Rattle.std.proofs.lemmas.Result.{IfOk-weaker, err_from_is_err_and}
-use Rattle.sc_said.specs.Said.{json}
-use Rattle.sc_serve.specs.Replies.{fixed}
 use Rattle.sc_serve.proofs.Replying.{fixed_said, looks, said_text}
 use Rattle.sc_serve.proofs.reading.answer_unstated.Goals as goal
 

@@ -1,6 +1,6 @@
 use Rattle.std.proofs.Common.{false, subst, sym}
 use Rattle.std.proofs.lemmas.Result.{IfOk-weaker}
-use Rattle.sc_serve.specs.Replies.{SaysOf, is_load}
+use Rattle.sc_serve.specs.Replies.{SaysOf}
 use Rattle.sc_serve.proofs.Saying.{says_collections, says_collection, says_item, says_search}
 use Rattle.sc_serve.proofs.reading.say.Goals as goal
 

@@ -1,8 +1,7 @@
-use Rattle.std.proofs.Common.{ap, ◌∙◌, find}
+use Rattle.std.proofs.Common.{find}
 use Rattle.std.proofs.lemmas.Result.{IfOk-weaker}
 use Rattle.sc_history.specs.Content.{is_called}
-use Rattle.sc_said.specs.Said.{json}
-use Rattle.sc_serve.proofs.Finding.{of_none, of_some}
+use Rattle.sc_serve.proofs.Finding.{of_none}
 use Rattle.sc_serve.proofs.reading.say_collection.Goals as goal
 
 pub returns-in-None : goal.returns-in-None
