@@ -1,4 +1,4 @@
-use Rattle.std.proofs.Common.{◌≡◌, ◌≤◌, length, vec_len}
+use Rattle.std.proofs.Common.{◌≡◌, ◌≤◌, vec_len}
 use Rattle.stacd.proofs.listeners.Given as goal
 
 abbrev pub invariant-loop : goal.invariant-loop
