@@ -1,5 +1,5 @@
 -- What a command that words ask for needs, and what its run is for the words.
-use Rattle.std.proofs.Common.{◌≡◌, ℕ, ◌≤◌, min, Bool, ◌⊎◌, List, inl, inr, refl, sym, ◌∙◌, arith}
+use Rattle.std.proofs.Common.{◌≡◌, ℕ, Bool, List, inl, inr, arith}
 use Rattle.std.specs.declared.option.Option.{Option}
 use Rattle.sc_words.specs.Asks.{Asks, AreServeWords}
 use Rattle.sc_words.specs.declared.command.Command.{Command}
