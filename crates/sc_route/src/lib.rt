@@ -8,8 +8,6 @@ mod loads;
 mod pairs;
 mod searches;
 mod seen;
-#[cfg(test)]
-mod tests;
 
 pub use job::{Job, Work};
 pub use jobs::job_of;
