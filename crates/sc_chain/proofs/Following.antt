@@ -31,7 +31,7 @@ pub record Leaves (asked : Asked) (items page : List Feature) (place : Keys) : T
   pub full : length page ≡ asked.limit
 
 -- the item that a page ends at, where the next begins behind it
-record EndsAt (asked : Asked) (kept page : List Feature) (place : Keys) : Type 0 where
+pub record EndsAt (asked : Asked) (kept page : List Feature) (place : Keys) : Type 0 where
   pub more : asked.limit < length (filter (is_asked asked) kept)
   pub item : Feature
   pub is_last : slice_get page (length page - 1) ≡ Some item
@@ -40,7 +40,7 @@ record EndsAt (asked : Asked) (kept page : List Feature) (place : Keys) : Type 0
 some_same : {X : Type 0} (a b : X) → Some a ≡ Some b → a ≡ b
 some_same a b e = cc
 
-ends_at : (asked : Asked) (kept page : List Feature) (place : Keys) → Some place ≡ next_of asked kept page → EndsAt asked kept page place
+pub ends_at : (asked : Asked) (kept page : List Feature) (place : Keys) → Some place ≡ next_of asked kept page → EndsAt asked kept page place
 ends_at asked kept page place e = go (nat_lt asked.limit (length (filter (is_asked asked) kept))) refl (slice_get page (length page - 1)) refl e
   where
     go : (b : Bool) → nat_lt asked.limit (length (filter (is_asked asked) kept)) ≡ b → (o : Option Feature) → slice_get page (length page - 1) ≡ o

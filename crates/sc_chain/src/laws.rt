@@ -1,10 +1,19 @@
 //! What follows from the definitions alone. Each function has an empty body: its clause is the law.
-ghost use Rattle.std.specs.Prelude.{◌≡◌, ℕ, ◌+◌, ◌≤◌, List, length, filter, Some};
+ghost use Rattle.std.specs.Prelude.{◌≡◌, ℕ, ◌+◌, ◌≤◌, All, List, length, filter, Option, Some, Result, Ok};
 ghost use Rattle.sc_item.specs.Feature.{Feature};
 ghost use Rattle.sc_item.specs.Names.{AreApart};
 ghost use Rattle.sc_sort.specs.Keys.{Keys};
 ghost use Rattle.sc_expr.specs.Query.{Asked};
 ghost use Rattle.sc_page.specs.Search.{is_asked};
+ghost use Rattle.sc_json.specs.declared.tree.Json.{Json};
+ghost use Rattle.sc_sort.specs.Keys.{AreKept};
+ghost use Rattle.sc_token.specs.Fits.{FitsSort};
+ghost use Rattle.sc_expr.specs.declared.select.Pair.{Pair};
+ghost use Rattle.sc_page.specs.Search.{IsPage};
+ghost use Rattle.sc_query.specs.declared.fault.QueryFault.{QueryFault};
+ghost use Rattle.sc_query.specs.Given.{of_pairs};
+ghost use Rattle.sc_query.specs.Query.{QueryOf, QueryOfBody};
+ghost use Rattle.sc_chain.specs.Next.{next_request, IsNextBody, AsksBehind, HasShortName};
 ghost use Rattle.sc_chain.specs.Chain.{behind, IsAll, IsPageOf, IsChain, joined};
 
 /// The pages of a query followed by `next`, over items in whatever order they are kept for each page, join to all items
@@ -27,4 +36,27 @@ pub fn pages_end()
 /// Items of which no two have one name have pages that follow one another to the end, for every query.
 pub fn pages_are_there()
     ensures { (items : List Feature) (asked : Asked) → 1 ≤ asked.limit → AreApart items → (pages : List (List Feature)) × IsChain items asked pages }
+{}
+
+/// The place that a page gives as the next fits the query's sort, where the items' collections and ids have 1 to 256
+/// bytes. The condition on the place is what every key list keeps.
+pub fn places_fit()
+    ensures { (asked : Asked) (items page : List Feature) (place : Keys) → IsPage asked items page (Some place) → All HasShortName items → AreKept place → FitsSort asked.sort place }
+{}
+
+/// The pairs of a next page's address ask for what the request's pairs ask for, behind the place, within one collection
+/// or not: that is read of them, and whatever is read of them is such a query.
+pub fn next_pairs_ask_behind()
+    ensures reads { (within : Option (List ℕ)) (pairs : List Pair) (asked : Asked) (place : Keys) → QueryOf within (of_pairs pairs) (Ok asked) → FitsSort asked.sort place →
+        QueryOf within (of_pairs (next_request pairs place)) (Ok (behind asked place)) }
+    ensures only { (within : Option (List ℕ)) (pairs : List Pair) (asked : Asked) (place : Keys) (answer : Result Asked QueryFault) → QueryOf within (of_pairs pairs) (Ok asked) → FitsSort asked.sort place →
+        QueryOf within (of_pairs (next_request pairs place)) answer → AsksBehind (QueryOf within (of_pairs pairs)) place answer }
+{}
+
+/// So does a request's body with the token of the place merged into it.
+pub fn next_bodies_ask_behind()
+    ensures reads { (body next : Json) (asked : Asked) (place : Keys) → QueryOfBody body (Ok asked) → FitsSort asked.sort place → IsNextBody body place next →
+        QueryOfBody next (Ok (behind asked place)) }
+    ensures only { (body next : Json) (asked : Asked) (place : Keys) (answer : Result Asked QueryFault) → QueryOfBody body (Ok asked) → FitsSort asked.sort place → IsNextBody body place next →
+        QueryOfBody next answer → AsksBehind (QueryOfBody body) place answer }
 {}

@@ -1,0 +1,38 @@
+-- The request for the next page, as its link tells it (STAC API, Item Search, pagination), and what it asks for.
+use Rattle.std.specs.Prelude.{◌≡◌, ◌≢◌, ℕ, List, map, Option, Some, Result, Ok, Err}
+use Rattle.sc_json.specs.declared.tree.Json.{Json}
+use Rattle.sc_json.specs.declared.tree.Json.TheVariants as trees
+use Rattle.sc_json.specs.declared.tree.Member.{Member}
+use Rattle.sc_json.specs.Member.{member_value}
+use Rattle.sc_json.specs.Views.{object_of}
+use Rattle.sc_item.specs.Feature.{Feature}
+use Rattle.sc_sort.specs.Keys.{Keys}
+use Rattle.sc_token.specs.Token.{token_of}
+use Rattle.sc_token.specs.Steps.{IsOfLength}
+use Rattle.sc_expr.specs.declared.select.Pair.{Pair}
+use Rattle.sc_expr.specs.Query.{Asked}
+use Rattle.sc_page.specs.Linked.{next_pairs}
+use Rattle.sc_query.specs.declared.fault.QueryFault.{QueryFault}
+use Rattle.sc_query.specs.Words.{token_name}
+use Rattle.sc_chain.specs.Chain.{behind}
+
+-- the pairs of the address that a page's link has: those of the request but its tokens, and then the token of the place
+abbrev pub next_request : List Pair → Keys → List Pair
+next_request pairs place = map (λ pair. record { name = pair.0; value = pair.1 }) (next_pairs pairs (token_of place))
+
+-- a body with the token of the place merged into it: that member has it, and each other member is as it was
+pub record IsNextBody (body : Json) (place : Keys) (next : Json) : Type 0 where
+  pub members : List Member
+  pub is_object : object_of next ≡ Some members
+  pub token : member_value next token_name ≡ Some (trees.Text (token_of place))
+  pub others : (name : List ℕ) → name ≢ token_name → member_value next name ≡ member_value body name
+
+-- the next request is answered with the first request's query behind the place, or with a fault that the first has
+abbrev pub AsksBehind : (Result Asked QueryFault → Type 0) → Keys → Result Asked QueryFault → Type 0
+AsksBehind First place (Ok next) = (first : Asked) × First (Ok first) × (next ≡ behind first place)
+AsksBehind First place (Err fault) = First (Err fault)
+
+-- an item of which collection and id have 1 to 256 bytes
+pub record HasShortName (item : Feature) : Type 0 where
+  pub collection : IsOfLength item.collection
+  pub id : IsOfLength item.id
