@@ -12,13 +12,13 @@ use Rattle.sc_token.specs.Fits.{FitsSort}
 use Rattle.sc_expr.specs.Query.{Asked}
 use Rattle.sc_query.specs.declared.fault.QueryFault.{QueryFault}
 use Rattle.sc_query.specs.Words.{token_name}
-use Rattle.sc_query.specs.Given.{in_tree, of_body, unless_null}
-use Rattle.sc_query.specs.Reading.{stops, goes_on}
+use Rattle.sc_query.specs.Given.{in_tree, of_body, Parameters, unless_null}
+use Rattle.sc_query.specs.Reading.{goes_on}
 use Rattle.sc_query.specs.Query.{QueryOf, QueryOfBody, object_judged}
 use Rattle.sc_chain.specs.Chain.{behind}
-use Rattle.sc_chain.specs.Next.{IsNextBody, AsksBehind}
-use Rattle.sc_chain.proofs.Asking as lemmas
-use Rattle.sc_chain.proofs.Asking.{HasOtherToken}
+use Rattle.sc_chain.specs.Next.{IsNextBody}
+use Rattle.sc_chain.proofs.Asking.{HasOtherToken, reads}
+use Rattle.sc_chain.proofs.Queries.{IsOneReading, is_one, then_one}
 
 out_text : (text : List ℕ) → out-Json (trees.Text text) ≡ layer.Text text
 out_text text = ap out-Json (sym (trees.rolls-Text text)) ∙ out-roll-Json (layer.Text text)
@@ -39,20 +39,13 @@ body_token body next key h = record {
   text = text_is (token_of key);
 }
 
-module _ (body next : Json) (key : Keys) (h : IsNextBody body key next) where
-  object_same : Ok tt ≡ object_judged (object_of next)
-  object_same = sym (ap object_judged h.is_object)
+object_same : (body next : Json) (key : Keys) → IsNextBody body key next → Ok tt ≡ object_judged (object_of next)
+object_same body next key h = sym (ap object_judged h.is_object)
 
-  pub body_reads : (asked : Asked) → QueryOfBody body (Ok asked) → FitsSort asked.sort key → QueryOfBody next (Ok (behind asked key))
-  body_reads asked (goes_on _ _ o q) f = goes_on tt (Ok (behind asked key)) object_same (lemmas.reads None (of_body body) (of_body next) key (body_token body next key h) asked q f)
+pub body_reads : (body next : Json) (key : Keys) (asked : Asked) → IsNextBody body key next → QueryOfBody body (Ok asked) → FitsSort asked.sort key → QueryOfBody next (Ok (behind asked key))
+body_reads body next key asked h (goes_on _ _ o q) f =
+    goes_on tt (Ok (behind asked key)) (object_same body next key h) (reads None (of_body body) (of_body next) key (body_token body next key h) asked q f)
 
-  pub body_only : (asked : Asked) (answer : Result Asked QueryFault) → QueryOfBody body (Ok asked) → FitsSort asked.sort key → QueryOfBody next answer → AsksBehind (QueryOfBody body) key answer
-  body_only asked answer (goes_on _ _ o q) f n = from answer n
-    where
-      wrapped : (answer : Result Asked QueryFault) → AsksBehind (QueryOf None (of_body body)) key answer → AsksBehind (QueryOfBody body) key answer
-      wrapped (Ok new) a = (a.0, goes_on tt (Ok a.0) o a.1, a.2)
-      wrapped (Err fault) a = goes_on tt (Err fault) o a
-
-      from : (answer : Result Asked QueryFault) → QueryOfBody next answer → AsksBehind (QueryOfBody body) key answer
-      from _ (stops fault e) = let f : Err fault ≡ Ok tt = e ∙ sym object_same in cc
-      from answer (goes_on _ _ p n) = wrapped answer (lemmas.only None (of_body body) (of_body next) key (body_token body next key h) asked answer q f n)
+-- a body is one query at most, and then has no fault
+pub body_one : (body : Json) → ((given : Parameters) → IsOneReading (QueryOf None given)) → IsOneReading (QueryOfBody body)
+body_one body one = then_one _ _ (is_one (object_judged (object_of body))) (λ _. one (of_body body))

@@ -1,20 +1,21 @@
 -- The request for the next page, as its link tells it (STAC API, Item Search, pagination), and what it asks for.
-use Rattle.std.specs.Prelude.{◌≡◌, ◌≢◌, ℕ, List, map, Option, Some, Result, Ok, Err}
+use Rattle.std.specs.Prelude.{◌≡◌, ◌≢◌, ℕ, List, [], ◌∷◌, map, Option, Some, None, Ok}
 use Rattle.sc_json.specs.declared.tree.Json.{Json}
 use Rattle.sc_json.specs.declared.tree.Json.TheVariants as trees
 use Rattle.sc_json.specs.declared.tree.Member.{Member}
 use Rattle.sc_json.specs.Member.{member_value}
 use Rattle.sc_json.specs.Views.{object_of}
 use Rattle.sc_item.specs.Feature.{Feature}
-use Rattle.sc_sort.specs.Keys.{Keys}
+use Rattle.sc_sort.specs.Keys.{Keys, AreKept}
 use Rattle.sc_token.specs.Token.{token_of}
 use Rattle.sc_token.specs.Steps.{IsOfLength}
 use Rattle.sc_expr.specs.declared.select.Pair.{Pair}
 use Rattle.sc_expr.specs.Query.{Asked}
 use Rattle.sc_page.specs.Linked.{next_pairs}
-use Rattle.sc_query.specs.declared.fault.QueryFault.{QueryFault}
 use Rattle.sc_query.specs.Words.{token_name}
-use Rattle.sc_chain.specs.Chain.{behind}
+use Rattle.sc_query.specs.Given.{of_pairs}
+use Rattle.sc_query.specs.Query.{QueryOf}
+use Rattle.sc_chain.specs.Chain.{IsPageOf}
 
 -- the pairs of the address that a page's link has: those of the request but its tokens, and then the token of the place
 abbrev pub next_request : List Pair → Keys → List Pair
@@ -27,12 +28,14 @@ pub record IsNextBody (body : Json) (place : Keys) (next : Json) : Type 0 where
   pub token : member_value next token_name ≡ Some (trees.Text (token_of place))
   pub others : (name : List ℕ) → name ≢ token_name → member_value next name ≡ member_value body name
 
--- the next request is answered with the first request's query behind the place, or with a fault that the first has
-abbrev pub AsksBehind : (Result Asked QueryFault → Type 0) → Keys → Result Asked QueryFault → Type 0
-AsksBehind First place (Ok next) = (first : Asked) × First (Ok first) × (next ≡ behind first place)
-AsksBehind First place (Err fault) = First (Err fault)
-
 -- an item of which collection and id have 1 to 256 bytes
 pub record HasShortName (item : Feature) : Type 0 where
   pub collection : IsOfLength item.collection
   pub id : IsOfLength item.id
+
+-- the pages of a search's pairs, and of the pairs of the addresses that their links have, one after another; each place
+-- keeps what every key list does
+pub data AreFollowed (within : Option (List ℕ)) (items : List Feature) : List Pair → List (List Feature) → Type 0 where
+  one_page : (pairs : List Pair) (asked : Asked) (page : List Feature) → QueryOf within (of_pairs pairs) (Ok asked) → IsPageOf asked items page None → AreFollowed within items pairs (page ∷ [])
+  more_pages : (pairs : List Pair) (asked : Asked) (page : List Feature) (place : Keys) (pages : List (List Feature)) → QueryOf within (of_pairs pairs) (Ok asked) → IsPageOf asked items page (Some place) → AreKept place
+      → AreFollowed within items (next_request pairs place) pages → AreFollowed within items pairs (page ∷ pages)

@@ -1,4 +1,4 @@
-//! What follows from the definitions alone. Each function has an empty body: its clause is the law.
+//! What follows from the definitions alone. Each function's clause is the law: its body is empty, or cites other laws.
 ghost use Rattle.std.specs.Prelude.{◌≡◌, ℕ, ◌+◌, ◌≤◌, All, List, length, filter, Option, Some, Result, Ok};
 ghost use Rattle.sc_item.specs.Feature.{Feature};
 ghost use Rattle.sc_item.specs.Names.{AreApart};
@@ -11,10 +11,12 @@ ghost use Rattle.sc_token.specs.Fits.{FitsSort};
 ghost use Rattle.sc_expr.specs.declared.select.Pair.{Pair};
 ghost use Rattle.sc_page.specs.Search.{IsPage};
 ghost use Rattle.sc_query.specs.declared.fault.QueryFault.{QueryFault};
-ghost use Rattle.sc_query.specs.Given.{of_pairs};
+ghost use Rattle.sc_query.specs.Given.{Parameters, of_pairs};
 ghost use Rattle.sc_query.specs.Query.{QueryOf, QueryOfBody};
-ghost use Rattle.sc_chain.specs.Next.{next_request, IsNextBody, AsksBehind, HasShortName};
+ghost use Rattle.sc_chain.specs.Next.{next_request, IsNextBody, HasShortName, AreFollowed};
 ghost use Rattle.sc_chain.specs.Chain.{behind, IsAll, IsPageOf, IsChain, joined};
+
+use sc_cqlread::laws::one_answer;
 
 /// The pages of a query followed by `next`, over items in whatever order they are kept for each page, join to all items
 /// that are asked for: each once, in order, without gaps. There is one such list, and where no two items have one name,
@@ -38,25 +40,45 @@ pub fn pages_are_there()
     ensures { (items : List Feature) (asked : Asked) → 1 ≤ asked.limit → AreApart items → (pages : List (List Feature)) × IsChain items asked pages }
 {}
 
+/// Parameters that are a query are no other, and have no fault.
+pub fn one_query()
+    ensures { (within : Option (List ℕ)) (given : Parameters) (asked : Asked) (answer : Result Asked QueryFault) → QueryOf within given (Ok asked) → QueryOf within given answer → answer ≡ Ok asked }
+{
+    one_answer();
+}
+
 /// The place that a page gives as the next fits the query's sort, where the items' collections and ids have 1 to 256
 /// bytes. The condition on the place is what every key list keeps.
 pub fn places_fit()
     ensures { (asked : Asked) (items page : List Feature) (place : Keys) → IsPage asked items page (Some place) → All HasShortName items → AreKept place → FitsSort asked.sort place }
 {}
 
-/// The pairs of a next page's address ask for what the request's pairs ask for, behind the place, within one collection
-/// or not: that is read of them, and whatever is read of them is such a query.
+/// The pairs of a next page's address are the query that the request's pairs are, behind the place, within one collection
+/// or not: that is read of them, and nothing else.
 pub fn next_pairs_ask_behind()
     ensures reads { (within : Option (List ℕ)) (pairs : List Pair) (asked : Asked) (place : Keys) → QueryOf within (of_pairs pairs) (Ok asked) → FitsSort asked.sort place →
         QueryOf within (of_pairs (next_request pairs place)) (Ok (behind asked place)) }
     ensures only { (within : Option (List ℕ)) (pairs : List Pair) (asked : Asked) (place : Keys) (answer : Result Asked QueryFault) → QueryOf within (of_pairs pairs) (Ok asked) → FitsSort asked.sort place →
-        QueryOf within (of_pairs (next_request pairs place)) answer → AsksBehind (QueryOf within (of_pairs pairs)) place answer }
-{}
+        QueryOf within (of_pairs (next_request pairs place)) answer → answer ≡ Ok (behind asked place) }
+{
+    one_query();
+}
 
-/// So does a request's body with the token of the place merged into it.
+/// So is a request's body with the token of the place merged into it.
 pub fn next_bodies_ask_behind()
     ensures reads { (body next : Json) (asked : Asked) (place : Keys) → QueryOfBody body (Ok asked) → FitsSort asked.sort place → IsNextBody body place next →
         QueryOfBody next (Ok (behind asked place)) }
     ensures only { (body next : Json) (asked : Asked) (place : Keys) (answer : Result Asked QueryFault) → QueryOfBody body (Ok asked) → FitsSort asked.sort place → IsNextBody body place next →
-        QueryOfBody next answer → AsksBehind (QueryOfBody body) place answer }
-{}
+        QueryOfBody next answer → answer ≡ Ok (behind asked place) }
+{
+    one_query();
+}
+
+/// The pages of a search's pairs, and of the pairs of the addresses that their links have, are those of its query followed
+/// by `next`: so they join to all that it asks for, and they end.
+pub fn requests_are_followed()
+    ensures { (within : Option (List ℕ)) (items : List Feature) (pairs : List Pair) (asked : Asked) (pages : List (List Feature)) → All HasShortName items →
+        QueryOf within (of_pairs pairs) (Ok asked) → AreFollowed within items pairs pages → IsChain items asked pages }
+{
+    one_query();
+}
