@@ -1,5 +1,6 @@
 -- Parameters of which the token alone is another ask for the same behind another place.
-use Rattle.std.proofs.Common.{◌≡◌, ◌≢◌, ℕ, false, nat_eq, List, Option, Some, None, Result, Ok, Err, ◌⊎◌, inl, inr, refl, sym, ap, subst, ◌∙◌}
+use Rattle.std.proofs.lemmas.Bool.Decides.{nat_tests}
+use Rattle.std.proofs.Common.{◌≤◌, Bool, true, cond, ◌==◌, min, arith, ◌≡◌, ◌≢◌, ℕ, false, nat_eq, List, Option, Some, None, Result, Ok, Err, ◌⊎◌, inl, inr, refl, sym, ap, subst, ◌∙◌}
 use Rattle.std.specs.Cmp.Lexicographic.{pointwise}
 use Rattle.sc_sort.specs.declared.key.Key.{Key}
 use Rattle.sc_sort.specs.Keys.{Keys}
@@ -13,10 +14,11 @@ use Rattle.sc_expr.specs.declared.select.Select.{Select}
 use Rattle.sc_expr.specs.Query.{Asked}
 use Rattle.sc_query.specs.declared.fault.QueryFault.{QueryFault}
 use Rattle.sc_query.specs.declared.fault.QueryFault.TheVariants.{BadToken}
+use Rattle.sc_query.specs.declared.fault.QueryFault.TheVariants.{BadLimit}
 use Rattle.sc_query.specs.Words.{limit_name, bbox_name, datetime_name, intersects_name, ids_name, collections_name, language_name, crs_name, filter_name, sort_name, token_name}
 use Rattle.sc_query.specs.Given.{Parameter, Parameters, text_given}
 use Rattle.sc_query.specs.Reading.{Then, stops, goes_on, Optional}
-use Rattle.sc_query.specs.Limit.{limit_of}
+use Rattle.sc_query.specs.Limit.{count_given, limit_of, served}
 use Rattle.sc_query.specs.Order.{sort_given, TokenReads, place, no_place, no_text}
 use Rattle.sc_query.specs.Query.{SelectOf, QueryOf}
 use Rattle.sc_chain.specs.Chain.{behind}
@@ -108,3 +110,21 @@ module _ (within : Option (List ℕ)) (given next : Parameters) (key : Keys) (h 
         sort = r.sort ∙ sym sort_same;
         after = subst (λ t. Optional (TokenReads asked.sort) t (Ok (Some key))) (sym h.there) (place (token_of key) key h.text (record { fits = f; token = refl }));
       })
+
+-- the limit of a query is from 1
+served_some : (count : Option ℕ) (n : ℕ) → Ok n ≡ served count → 1 ≤ n
+served_some None n e = cc
+served_some (Some count) n e = go (count == 0) refl e
+  where
+    go : (b : Bool) → (count == 0) ≡ b → Ok n ≡ cond b (Err BadLimit) (Ok (min count 10_000)) → 1 ≤ n
+    go true z e = cc
+    go false z e =
+        let f : n ≡ min count 10_000 = one_ok (Ok n) n (min count 10_000) refl e in
+        grind (arith, nat_tests)
+
+limit_some : (given : Option Parameter) (n : ℕ) → Ok n ≡ limit_of given → 1 ≤ n
+limit_some None n e = let f : n ≡ 10 = one_ok (Ok n) n 10 refl e in omega (arith, f)
+limit_some (Some given) n e = served_some (count_given given) n e
+
+pub query_limit : (within : Option (List ℕ)) (given : Parameters) (asked : Asked) → QueryOf within given (Ok asked) → 1 ≤ asked.limit
+query_limit within given asked q = limit_some (given limit_name) asked.limit (is_read within given asked q).limit

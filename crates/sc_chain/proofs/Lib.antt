@@ -8,3 +8,4 @@ pub mod Pairing
 pub mod Bodies
 pub mod Fitting
 pub mod Requests
+pub mod Addresses

@@ -1,5 +1,5 @@
 -- The request for the next page, as its link tells it (STAC API, Item Search, pagination), and what it asks for.
-use Rattle.std.specs.Prelude.{◌≡◌, ◌≢◌, ℕ, List, [], ◌∷◌, map, Option, Some, None, Ok}
+use Rattle.std.specs.Prelude.{◌≡◌, ◌≢◌, ℕ, List, [], ◌∷◌, map, Option, Some, None, Ok, IsUtf8}
 use Rattle.sc_json.specs.declared.tree.Json.{Json}
 use Rattle.sc_json.specs.declared.tree.Json.TheVariants as trees
 use Rattle.sc_json.specs.declared.tree.Member.{Member}
@@ -32,6 +32,11 @@ pub record IsNextBody (body : Json) (place : Keys) (next : Json) : Type 0 where
 pub record HasShortName (item : Feature) : Type 0 where
   pub collection : IsOfLength item.collection
   pub id : IsOfLength item.id
+
+-- what every pair keeps
+pub record IsInUtf8 (pair : Pair) : Type 0 where
+  pub name : IsUtf8 pair.name
+  pub value : IsUtf8 pair.value
 
 -- the pages of a search's pairs, and of the pairs of the addresses that their links have, one after another; each place
 -- keeps what every key list does

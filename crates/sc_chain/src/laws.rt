@@ -1,10 +1,13 @@
 //! What follows from the definitions alone. Each function's clause is the law: its body is empty, or cites other laws.
-ghost use Rattle.std.specs.Prelude.{◌≡◌, ℕ, ◌+◌, ◌≤◌, All, List, length, filter, Option, Some, Result, Ok};
+ghost use Rattle.std.specs.Prelude.{◌≡◌, ℕ, ◌+◌, ◌≤◌, All, List, [], length, filter, Option, Some, Result, Ok};
 ghost use Rattle.sc_item.specs.Feature.{Feature};
 ghost use Rattle.sc_item.specs.Names.{AreApart};
 ghost use Rattle.sc_sort.specs.Keys.{Keys};
 ghost use Rattle.sc_expr.specs.Query.{Asked};
 ghost use Rattle.sc_page.specs.Search.{is_asked};
+ghost use Rattle.form_urlencoded.specs.Form.{extend_pairs, parse};
+ghost use Rattle.sc_page.specs.Linked.{next_pairs};
+ghost use Rattle.sc_token.specs.Token.{token_of};
 ghost use Rattle.sc_json.specs.declared.tree.Json.{Json};
 ghost use Rattle.sc_sort.specs.Keys.{AreKept};
 ghost use Rattle.sc_token.specs.Fits.{FitsSort};
@@ -13,7 +16,7 @@ ghost use Rattle.sc_page.specs.Search.{IsPage};
 ghost use Rattle.sc_query.specs.declared.fault.QueryFault.{QueryFault};
 ghost use Rattle.sc_query.specs.Given.{Parameters, of_pairs};
 ghost use Rattle.sc_query.specs.Query.{QueryOf, QueryOfBody};
-ghost use Rattle.sc_chain.specs.Next.{next_request, IsNextBody, HasShortName, AreFollowed};
+ghost use Rattle.sc_chain.specs.Next.{next_request, IsNextBody, HasShortName, IsInUtf8, AreFollowed};
 ghost use Rattle.sc_chain.specs.Chain.{behind, IsAll, IsPageOf, IsChain, joined};
 
 use sc_cqlread::laws::one_answer;
@@ -64,7 +67,13 @@ pub fn next_pairs_ask_behind()
     one_query();
 }
 
-/// So is a request's body with the token of the place merged into it.
+/// The form that stands behind the question mark of such an address is read as these pairs (URL Standard §5.1). The
+/// condition on the pairs is what every pair keeps.
+pub fn next_addresses_are_read()
+    ensures { (pairs : List Pair) (place : Keys) → All IsInUtf8 pairs → parse (extend_pairs [] (next_pairs pairs (token_of place))) ≡ next_pairs pairs (token_of place) }
+{}
+
+/// A request's body with the token of the place merged into it is the query that the body is, behind the place.
 pub fn next_bodies_ask_behind()
     ensures reads { (body next : Json) (asked : Asked) (place : Keys) → QueryOfBody body (Ok asked) → FitsSort asked.sort place → IsNextBody body place next →
         QueryOfBody next (Ok (behind asked place)) }
@@ -75,10 +84,14 @@ pub fn next_bodies_ask_behind()
 }
 
 /// The pages of a search's pairs, and of the pairs of the addresses that their links have, are those of its query followed
-/// by `next`: so they join to all that it asks for, and they end.
-pub fn requests_are_followed()
-    ensures { (within : Option (List ℕ)) (items : List Feature) (pairs : List Pair) (asked : Asked) (pages : List (List Feature)) → All HasShortName items →
+/// by `next`. So they join to all items that it asks for, and are at most one more than these: a query's limit is from 1.
+pub fn requests_join()
+    ensures chain { (within : Option (List ℕ)) (items : List Feature) (pairs : List Pair) (asked : Asked) (pages : List (List Feature)) → All HasShortName items →
         QueryOf within (of_pairs pairs) (Ok asked) → AreFollowed within items pairs pages → IsChain items asked pages }
+    ensures all { (within : Option (List ℕ)) (items : List Feature) (pairs : List Pair) (asked : Asked) (pages : List (List Feature)) → All HasShortName items →
+        QueryOf within (of_pairs pairs) (Ok asked) → AreFollowed within items pairs pages → IsAll asked items (joined pages) }
+    ensures few { (within : Option (List ℕ)) (items : List Feature) (pairs : List Pair) (asked : Asked) (pages : List (List Feature)) → All HasShortName items →
+        QueryOf within (of_pairs pairs) (Ok asked) → AreFollowed within items pairs pages → length pages ≤ length (filter (is_asked asked) items) + 1 }
 {
     one_query();
 }
