@@ -1,5 +1,5 @@
 -- The pairs of a next page's address, name by name.
-use Rattle.std.proofs.Common.{◌≡◌, ℕ, Bool, true, false, cond, not, find, nat_eq, map, filter, Option, Some, None, option_and_then, List, [], ◌∷◌, ◌++◌, refl, sym, ap, subst, ◌∙◌}
+use Rattle.std.proofs.Common.{◌≡◌, ℕ, Ok, Bool, true, false, cond, not, find, nat_eq, map, filter, Option, Some, None, option_and_then, List, [], ◌∷◌, ◌++◌, refl, sym, ap, subst, ◌∙◌}
 use Rattle.std.specs.Cmp.Lexicographic.{pointwise, bytes_decides}
 use Rattle.hex.specs.Hex.{encode_lower, encode_with}
 use Rattle.sc_sort.specs.Keys.{Keys}
@@ -10,8 +10,12 @@ use Rattle.sc_page.specs.Linked as linked
 use Rattle.sc_page.specs.Linked.{is_other_pair}
 use Rattle.sc_query.specs.Words.{token_name}
 use Rattle.sc_query.specs.Given.{Parameter, in_text, of_pairs, unless_empty}
+use Rattle.sc_query.specs.Query.{QueryOf}
+use Rattle.sc_token.specs.Fits.{FitsSort}
+use Rattle.sc_expr.specs.Query.{Asked}
+use Rattle.sc_chain.specs.Chain.{behind}
 use Rattle.sc_chain.specs.Next.{next_request}
-use Rattle.sc_chain.proofs.Asking.{IsOther, HasOtherToken}
+use Rattle.sc_chain.proofs.Asking.{IsOther, HasOtherToken, reads}
 
 -- both crates name the token alike
 one_name : linked.token_name ≡ token_name
@@ -77,3 +81,6 @@ pairs_token pairs key = record {
   where
     go : ((b : ℕ) × (rest : List ℕ) × (token_of key ≡ b ∷ rest)) → unless_empty (token_of key) ≡ Some (in_text (token_of key))
     go s = ap unless_empty s.2 ∙ sym (ap (λ t. Some (in_text t)) s.2)
+
+pub pairs_read : (within : Option (List ℕ)) (pairs : List Pair) (asked : Asked) (place : Keys) → QueryOf within (of_pairs pairs) (Ok asked) → FitsSort asked.sort place → QueryOf within (of_pairs (next_request pairs place)) (Ok (behind asked place))
+pairs_read within pairs asked place = reads within (of_pairs pairs) (of_pairs (next_request pairs place)) place (pairs_token pairs place) asked

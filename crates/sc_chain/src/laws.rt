@@ -9,6 +9,8 @@ ghost use Rattle.form_urlencoded.specs.Form.{extend_pairs, parse};
 ghost use Rattle.sc_page.specs.Linked.{next_pairs};
 ghost use Rattle.sc_token.specs.Token.{token_of};
 ghost use Rattle.sc_json.specs.declared.tree.Json.{Json};
+ghost use Rattle.sc_json.specs.declared.tree.Member.{Member};
+ghost use Rattle.sc_json.specs.Views.{object_of};
 ghost use Rattle.sc_sort.specs.Keys.{AreKept};
 ghost use Rattle.sc_token.specs.Fits.{FitsSort};
 ghost use Rattle.sc_expr.specs.declared.select.Pair.{Pair};
@@ -16,7 +18,7 @@ ghost use Rattle.sc_page.specs.Search.{IsPage};
 ghost use Rattle.sc_query.specs.declared.fault.QueryFault.{QueryFault};
 ghost use Rattle.sc_query.specs.Given.{Parameters, of_pairs};
 ghost use Rattle.sc_query.specs.Query.{QueryOf, QueryOfBody};
-ghost use Rattle.sc_chain.specs.Next.{next_request, IsNextBody, HasShortName, IsInUtf8, AreFollowed};
+ghost use Rattle.sc_chain.specs.Next.{next_request, IsNextBody, HasShortName, IsInUtf8, PairsFollowed, BodiesFollowed};
 ghost use Rattle.sc_chain.specs.Chain.{behind, IsAll, IsPageOf, IsChain, joined};
 
 use sc_cqlread::laws::one_answer;
@@ -83,15 +85,32 @@ pub fn next_bodies_ask_behind()
     one_query();
 }
 
+/// A body that is an object has a next one.
+pub fn next_bodies_are_there()
+    ensures { (body : Json) (place : Keys) (members : List Member) → object_of body ≡ Some members → (next : Json) × IsNextBody body place next }
+{}
+
 /// The pages of a search's pairs, and of the pairs of the addresses that their links have, are those of its query followed
 /// by `next`. So they join to all items that it asks for, and are at most one more than these: a query's limit is from 1.
 pub fn requests_join()
     ensures chain { (within : Option (List ℕ)) (items : List Feature) (pairs : List Pair) (asked : Asked) (pages : List (List Feature)) → All HasShortName items →
-        QueryOf within (of_pairs pairs) (Ok asked) → AreFollowed within items pairs pages → IsChain items asked pages }
+        QueryOf within (of_pairs pairs) (Ok asked) → PairsFollowed within items pairs pages → IsChain items asked pages }
     ensures all { (within : Option (List ℕ)) (items : List Feature) (pairs : List Pair) (asked : Asked) (pages : List (List Feature)) → All HasShortName items →
-        QueryOf within (of_pairs pairs) (Ok asked) → AreFollowed within items pairs pages → IsAll asked items (joined pages) }
+        QueryOf within (of_pairs pairs) (Ok asked) → PairsFollowed within items pairs pages → IsAll asked items (joined pages) }
     ensures few { (within : Option (List ℕ)) (items : List Feature) (pairs : List Pair) (asked : Asked) (pages : List (List Feature)) → All HasShortName items →
-        QueryOf within (of_pairs pairs) (Ok asked) → AreFollowed within items pairs pages → length pages ≤ length (filter (is_asked asked) items) + 1 }
+        QueryOf within (of_pairs pairs) (Ok asked) → PairsFollowed within items pairs pages → length pages ≤ length (filter (is_asked asked) items) + 1 }
+{
+    one_query();
+}
+
+/// So are the pages of a search's body, and of the bodies that their links make of it.
+pub fn bodies_join()
+    ensures chain { (items : List Feature) (body : Json) (asked : Asked) (pages : List (List Feature)) → All HasShortName items →
+        QueryOfBody body (Ok asked) → BodiesFollowed items body pages → IsChain items asked pages }
+    ensures all { (items : List Feature) (body : Json) (asked : Asked) (pages : List (List Feature)) → All HasShortName items →
+        QueryOfBody body (Ok asked) → BodiesFollowed items body pages → IsAll asked items (joined pages) }
+    ensures few { (items : List Feature) (body : Json) (asked : Asked) (pages : List (List Feature)) → All HasShortName items →
+        QueryOfBody body (Ok asked) → BodiesFollowed items body pages → length pages ≤ length (filter (is_asked asked) items) + 1 }
 {
     one_query();
 }
