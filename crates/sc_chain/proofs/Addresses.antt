@@ -1,5 +1,5 @@
 -- The form of a next page's address is read as its pairs.
-use Rattle.std.proofs.Common.{◌≡◌, ◌<◌, ℕ, get_or, length, List, [], ◌∷◌, ◌++◌, filter, IsUtf8, arith}
+use Rattle.std.proofs.Common.{◌≡◌, ℕ, List, [], ◌∷◌, filter, IsUtf8, arith}
 use Rattle.std.specs.List.{All}
 use Rattle.std.proofs.lemmas.List.Elements.{All-append, All-cons, All-filter, All-from_get_or, All-from_recursion, All-map, All-nil, All-weaker}
 use Rattle.std.proofs.lemmas.Str.{IsUtf8-from_is_utf8}

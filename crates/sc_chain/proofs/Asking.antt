@@ -1,25 +1,19 @@
 -- Parameters of which the token alone is another ask for the same behind another place.
 use Rattle.std.proofs.lemmas.Bool.Decides.{nat_tests}
-use Rattle.std.proofs.Common.{◌≤◌, Bool, true, cond, ◌==◌, min, arith, ◌≡◌, ◌≢◌, ℕ, false, nat_eq, List, Option, Some, None, Result, Ok, Err, ◌⊎◌, inl, inr, refl, sym, ap, subst, ◌∙◌}
+use Rattle.std.proofs.Common.{◌≤◌, Bool, true, cond, ◌==◌, min, arith, ◌≡◌, ℕ, false, nat_eq, List, Option, Some, None, Result, Ok, Err, refl, sym, ap, subst, ◌∙◌}
 use Rattle.std.specs.Cmp.Lexicographic.{pointwise}
-use Rattle.sc_sort.specs.declared.key.Key.{Key}
 use Rattle.sc_sort.specs.Keys.{Keys}
-use Rattle.sc_token.specs.declared.fault.TokenFault.{TokenFault}
-use Rattle.sc_token.specs.declared.fault.TokenFault.TheVariants.{OutOfMemory}
 use Rattle.sc_token.specs.Token.{token_of}
 use Rattle.sc_token.specs.Fits.{FitsSort}
-use Rattle.sc_token.specs.Reading as tokens
-use Rattle.sc_token.proofs.Answered.{read_back}
 use Rattle.sc_expr.specs.declared.select.Select.{Select}
 use Rattle.sc_expr.specs.Query.{Asked}
 use Rattle.sc_query.specs.declared.fault.QueryFault.{QueryFault}
-use Rattle.sc_query.specs.declared.fault.QueryFault.TheVariants.{BadToken}
 use Rattle.sc_query.specs.declared.fault.QueryFault.TheVariants.{BadLimit}
 use Rattle.sc_query.specs.Words.{limit_name, bbox_name, datetime_name, intersects_name, ids_name, collections_name, language_name, crs_name, filter_name, sort_name, token_name}
 use Rattle.sc_query.specs.Given.{Parameter, Parameters, text_given}
-use Rattle.sc_query.specs.Reading.{Then, stops, goes_on, Optional}
+use Rattle.sc_query.specs.Reading.{goes_on, Optional}
 use Rattle.sc_query.specs.Limit.{count_given, limit_of, served}
-use Rattle.sc_query.specs.Order.{sort_given, TokenReads, place, no_place, no_text}
+use Rattle.sc_query.specs.Order.{sort_given, TokenReads, place}
 use Rattle.sc_query.specs.Query.{SelectOf, QueryOf}
 use Rattle.sc_chain.specs.Chain.{behind}
 use Rattle.sc_chain.proofs.Queries.{one_ok}
@@ -92,8 +86,16 @@ pub record HasOtherToken (given next : Parameters) (key : Keys) : Type 0 where
 module _ (within : Option (List ℕ)) (given next : Parameters) (key : Keys) (h : HasOtherToken given next key) where
   select_next : (result : Result Select QueryFault) → SelectOf within given result → SelectOf within next result
   select_next result s =
-      rw (h.others bbox_name other_bbox, h.others datetime_name other_datetime, h.others intersects_name other_intersects, h.others ids_name other_ids,
-      h.others collections_name other_collections, h.others language_name other_language, h.others crs_name other_crs, h.others filter_name other_filter) s
+      rw (
+        h.others bbox_name other_bbox,
+        h.others datetime_name other_datetime,
+        h.others intersects_name other_intersects,
+        h.others ids_name other_ids,
+        h.others collections_name other_collections,
+        h.others language_name other_language,
+        h.others crs_name other_crs,
+        h.others filter_name other_filter,
+      ) s
 
   limit_same : limit_of (next limit_name) ≡ limit_of (given limit_name)
   limit_same = ap limit_of (h.others limit_name other_limit)

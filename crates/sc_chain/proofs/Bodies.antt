@@ -1,5 +1,5 @@
 -- A body with the token merged into it, member by member.
-use Rattle.std.proofs.Common.{◌≡◌, ◌≢◌, ◌≤◌, ℕ, Bool, true, false, not, bytes_eq, filter, cond, List, [], ◌∷◌, Option, Some, None, option_and_then, Result, Ok, Err, refl, sym, ap, ◌∙◌, true≢false}
+use Rattle.std.proofs.Common.{◌≡◌, ◌≢◌, ◌≤◌, ℕ, Bool, true, false, not, bytes_eq, filter, cond, List, [], ◌∷◌, Option, Some, None, option_and_then, Ok, refl, sym, ap, ◌∙◌, true≢false}
 use Rattle.std.specs.Cmp.Lexicographic.{bytes_decides}
 use Rattle.sc_json.specs.declared.tree.Json.{Json}
 use Rattle.sc_json.specs.declared.tree.Json.TheVariants as trees
@@ -13,7 +13,6 @@ use Rattle.sc_sort.specs.Keys.{Keys}
 use Rattle.sc_token.specs.Token.{token_of}
 use Rattle.sc_token.specs.Fits.{FitsSort}
 use Rattle.sc_expr.specs.Query.{Asked}
-use Rattle.sc_query.specs.declared.fault.QueryFault.{QueryFault}
 use Rattle.sc_query.specs.Words.{token_name}
 use Rattle.sc_query.specs.Given.{in_tree, of_body, Parameters, unless_null}
 use Rattle.sc_query.specs.Reading.{goes_on}

@@ -1,5 +1,5 @@
 -- Pages that follow one another: what they join to, how many they are, and that they are there.
-use Rattle.std.proofs.Common.{◌≡◌, ◌<◌, ◌≤◌, ◌+◌, ◌-◌, ℕ, suc, zero, Option, Some, None, List, [], ◌∷◌, ◌++◌, take, filter, length, refl, sym, ap, subst, ◌∙◌, arith, append-nil}
+use Rattle.std.proofs.Common.{◌≡◌, ◌<◌, ◌≤◌, ◌+◌, ℕ, suc, zero, Option, Some, None, List, [], ◌∷◌, ◌++◌, take, filter, length, refl, sym, subst, arith, append-nil}
 use Rattle.std.proofs.lemmas.List.{length-append}
 use Rattle.std.proofs.lemmas.List.Sorted.{IsPermutation-refl, IsPermutation-sym, length_permutation}
 use Rattle.sqlite_keyed.specs.Lists.{sort_by}
@@ -9,14 +9,13 @@ use Rattle.sc_item.specs.Names.{AreApart}
 use Rattle.sc_sort.specs.Keys.{Keys}
 use Rattle.sc_expr.specs.Query.{Asked}
 use Rattle.sc_page.specs.ItemKey.{item_order}
-use Rattle.sc_page.specs.Order.{IsListing}
 use Rattle.sc_page.specs.Search.{is_asked, next_of}
 use Rattle.sc_page.proofs.Growing.{apart-filter, pairs_from_ascending, untied}
 use Rattle.sc_page.proofs.ItemOrders.{item_order_is}
 use Rattle.sc_page.proofs.Leading.{rises-sort_by}
 use Rattle.sc_page.proofs.Listing.{apart_permutation, one_listing}
 use Rattle.sc_chain.specs.Chain.{behind, IsAll, IsPageOf, IsChain, last, followed, joined}
-use Rattle.sc_chain.proofs.Following.{Leaves, leaves, ends}
+use Rattle.sc_chain.proofs.Following.{leaves, ends}
 
 one_all : (asked : Asked) (items a b : List Feature) → IsAll asked items a → IsAll asked items b → a ≡ b
 one_all asked items a b p q = one_listing (item_order asked.sort) (item_order_is asked.sort) (filter (is_asked asked) items) a b p q

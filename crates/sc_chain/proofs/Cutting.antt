@@ -1,5 +1,5 @@
 -- A rising list that is cut behind one of its elements: those up to it don't come after it, and the others do.
-use Rattle.std.proofs.Common.{◌≡◌, ◌<◌, ℕ, suc, zero, true, false, Bool, Some, None, List, [], ◌∷◌, ◌++◌, take, drop, length, slice_get, refl, sym, ap, subst, ◌∙◌, arith, Ordering, Less, Equal, Greater, is_gt}
+use Rattle.std.proofs.Common.{◌≡◌, ℕ, suc, zero, true, false, Some, List, [], ◌∷◌, take, drop, slice_get, refl, sym, ap, subst, ◌∙◌, Ordering, Less, Equal, Greater, is_gt}
 use Rattle.std.specs.List.{AllByRecursion}
 use Rattle.std.specs.Cmp.{IsTotalOrder}
 use Rattle.std.specs.Ordering.{ordering_reverse}

@@ -1,5 +1,5 @@
 -- The place that a page gives as the next fits the query's sort.
-use Rattle.std.proofs.Common.{◌≡◌, ◌-◌, ℕ, Option, Some, None, List, [], ◌∷◌, filter, take, length, false, refl, sym, subst}
+use Rattle.std.proofs.Common.{◌≡◌, ◌-◌, Option, Some, None, List, [], ◌∷◌, filter, take, length, false, refl, sym, subst}
 use Rattle.std.specs.List.{All}
 use Rattle.std.proofs.lemmas.List.Elements.{All-filter, All-take, recursion_from_All}
 use Rattle.std.proofs.lemmas.List.Sorted.{All-permutation}
@@ -18,11 +18,11 @@ use Rattle.sc_token.specs.Steps.{AreOfKinds, AreInForm}
 use Rattle.sc_token.proofs.Found.{fits_from}
 use Rattle.sc_expr.specs.Query.{Asked}
 use Rattle.sc_eval.specs.Property.{property_value, value_named, value_of_geometry, value_of_member, value_of_tree}
-use Rattle.sc_page.specs.ItemKey.{key_of, sort_value, values_of}
+use Rattle.sc_page.specs.ItemKey.{sort_value, values_of}
 use Rattle.sc_page.specs.Search.{is_asked, IsPage}
 use Rattle.sc_page.proofs.Fronts.{all_short}
 use Rattle.sc_chain.specs.Next.{HasShortName}
-use Rattle.sc_chain.proofs.Following.{EndsAt, ends_at}
+use Rattle.sc_chain.proofs.Following.{ends_at}
 
 no_moment : (l : Json-F Json NamedTree) → is_moment (sort_value (value_of_tree l)) ≡ false
 no_moment layer.Null = refl

@@ -1,15 +1,14 @@
 -- What one page leaves: behind the place that it gives as the next, the rest of what was asked for is asked for.
-use Rattle.std.proofs.Common.{◌≡◌, ◌<◌, ◌≤◌, ◌+◌, ◌-◌, ℕ, suc, zero, Bool, true, false, cond, ◌&&◌, nat_lt, true≢false, Option, Some, None, option_map, List, [], ◌∷◌, ◌++◌, take, drop, filter, length, slice_get, refl, sym, ap, subst, ◌∙◌, arith, Less, is_gt, IsPermutation}
-use Rattle.std.specs.List.{AllByRecursion, All}
+use Rattle.std.proofs.Common.{◌≡◌, ◌<◌, ◌≤◌, ◌-◌, ℕ, suc, zero, Bool, true, false, cond, ◌&&◌, nat_lt, Option, Some, None, option_map, List, [], ◌∷◌, ◌++◌, take, drop, filter, length, slice_get, refl, sym, ap, subst, ◌∙◌, arith, Less, is_gt, IsPermutation}
+use Rattle.std.specs.List.{AllByRecursion}
 use Rattle.std.proofs.lemmas.Bool.Decides.{nat_tests}
 use Rattle.std.proofs.lemmas.List.{take-append-drop, length-take-le, take_all}
 use Rattle.std.proofs.lemmas.List.Elements.{filter-append, filter_passes, recursion_from_All}
-use Rattle.std.proofs.lemmas.List.Sorted.{All-permutation, IsPermutation-sym, IsPermutation-trans, length_permutation}
+use Rattle.std.proofs.lemmas.List.Sorted.{All-permutation, IsPermutation-trans, length_permutation}
 use Rattle.sqlite_trees.specs.Tree.{IsAscending}
 use Rattle.sqlite_keyed.proofs.ListLemmas.{IsPermutation-filter, all-slice_get, filter-filter, filter_all, filter_none, all_both, all_weaker}
 use Rattle.sqlite_keyed.proofs.RuleLemmas.{first_of_both, second_of_both}
 use Rattle.sc_item.specs.Feature.{Feature}
-use Rattle.sc_sort.specs.declared.key.Key.{Key}
 use Rattle.sc_sort.specs.Keys.{Keys}
 use Rattle.sc_sort.specs.Order.{keys_order}
 use Rattle.sc_sort.proofs.Orders.{keys_total}
@@ -17,7 +16,7 @@ use Rattle.sc_expr.specs.Query.{Asked}
 use Rattle.sc_eval.specs.Selection.{is_selected}
 use Rattle.sc_page.specs.ItemKey.{key_of, item_order}
 use Rattle.sc_page.specs.Order.{IsListing}
-use Rattle.sc_page.specs.Search.{is_behind, is_asked, last_key, next_of, IsPage}
+use Rattle.sc_page.specs.Search.{is_behind, is_asked, next_of}
 use Rattle.sc_page.proofs.Growing.{ascending_from_pairs, pairs_from_ascending}
 use Rattle.sc_page.proofs.ItemOrders.{item_order_is}
 use Rattle.sc_chain.specs.Chain.{behind, IsAll, IsPageOf}

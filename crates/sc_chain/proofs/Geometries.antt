@@ -1,6 +1,6 @@
 -- A tree that is a geometry is no other, and has no fault.
-use Rattle.std.proofs.Common.{◌≡◌, ◌≤◌, ◌≢◌, ℕ, ℤ, pos, suc, zero, Bool, true, false, not, ◌&&◌, ◌||◌, nat_lt, true≢false, is_none, unwrap_or, flat_map, List, [], ◌∷◌, ◌++◌, map, length, Option, Some, None, Result, Ok, Err, refl, sym, ap, subst, ◌∙◌, arith}
-use Rattle.std.specs.List.{AllByRecursion, list_any}
+use Rattle.std.proofs.Common.{◌≡◌, ◌≤◌, ◌≢◌, ℕ, ℤ, pos, true, false, not, ◌&&◌, nat_lt, true≢false, is_none, unwrap_or, List, [], ◌∷◌, ◌++◌, map, length, Option, Some, refl, sym, ap, ◌∙◌, arith}
+use Rattle.std.specs.List.{list_any}
 use Rattle.std.specs.Ordering.{int_eq}
 use Rattle.std.proofs.lemmas.Bool.Decides.{nat_tests}
 use Rattle.std.proofs.lemmas.List.{length-map, map-append}
@@ -11,8 +11,8 @@ use Rattle.sc_geom.specs.declared.point.Pt.{Pt}
 use Rattle.sc_geom.specs.declared.fault.GeomFault.{GeomFault}
 use Rattle.sc_geom.specs.declared.fault.GeomFault.TheVariants.{BadShape, OpenRing, OutOfWorld, TooManyPositions, OutOfMemory}
 use Rattle.sc_geom.specs.Geometry.{IsGeometry, IsRing}
-use Rattle.sc_geom.specs.Shapes.{Shapes, positions_of, rings_of, joined, map_shapes, first_of, last_of, last_behind}
-use Rattle.sc_geom.specs.Sketch.{Sketch, is_open, is_same, differ, place_at, has_open_ring, leaves_world}
+use Rattle.sc_geom.specs.Shapes.{Shapes, positions_of, rings_of, joined, map_shapes, last_behind}
+use Rattle.sc_geom.specs.Sketch.{is_open, is_same, differ, has_open_ring, leaves_world}
 use Rattle.sc_geom.specs.Answers.{GeomOf, IsFault, count_of}
 use Rattle.sc_geom.proofs.Depicting.{one_sketch, shapes_equal}
 

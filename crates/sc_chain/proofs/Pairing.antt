@@ -1,5 +1,5 @@
 -- The pairs of a next page's address, name by name.
-use Rattle.std.proofs.Common.{◌≡◌, ℕ, Ok, Bool, true, false, cond, not, find, nat_eq, map, filter, Option, Some, None, option_and_then, List, [], ◌∷◌, ◌++◌, refl, sym, ap, subst, ◌∙◌}
+use Rattle.std.proofs.Common.{◌≡◌, ℕ, Ok, Bool, true, false, cond, not, find, nat_eq, Option, Some, None, option_and_then, List, [], ◌∷◌, refl, sym, ap, ◌∙◌}
 use Rattle.std.specs.Cmp.Lexicographic.{pointwise, bytes_decides}
 use Rattle.hex.specs.Hex.{encode_lower, encode_with}
 use Rattle.sc_sort.specs.Keys.{Keys}
@@ -9,7 +9,7 @@ use Rattle.sc_expr.specs.declared.select.Pair.{Pair}
 use Rattle.sc_page.specs.Linked as linked
 use Rattle.sc_page.specs.Linked.{is_other_pair}
 use Rattle.sc_query.specs.Words.{token_name}
-use Rattle.sc_query.specs.Given.{Parameter, in_text, of_pairs, unless_empty}
+use Rattle.sc_query.specs.Given.{in_text, of_pairs, unless_empty}
 use Rattle.sc_query.specs.Query.{QueryOf}
 use Rattle.sc_token.specs.Fits.{FitsSort}
 use Rattle.sc_expr.specs.Query.{Asked}

@@ -1,12 +1,10 @@
 -- Parameters that are a query are no other, and have no fault.
-use Rattle.std.proofs.Common.{◌≡◌, ◌≤◌, ◌<◌, ◌≤ℤ◌, ◌<ℤ◌, ◌⊎◌, inl, inr, ℕ, ℤ, List, Option, Some, None, Result, Ok, Err, refl, sym, ap, subst, ◌∙◌, arith}
+use Rattle.std.proofs.Common.{◌≡◌, ◌⊎◌, inl, inr, ℕ, List, Option, Some, None, Result, Ok, Err, refl, sym, ap, subst, ◌∙◌}
 use Rattle.std.specs.Int.Signed.{clash_ℤ}
 use Rattle.sc_json.specs.declared.tree.Json.{Json}
 use Rattle.sc_json.proofs.Spelled.{spelled_once}
-use Rattle.sc_geom.specs.declared.point.Pt.{Pt}
 use Rattle.sc_geom.specs.declared.rects.Rects.{Rects}
-use Rattle.sc_geom.specs.Rects.{AreRects, Spans, sides_of}
-use Rattle.sc_geom.specs.Shapes.{Shapes}
+use Rattle.sc_geom.specs.Rects.{Spans, sides_of}
 use Rattle.sc_geom.specs.Answers.{GeomOf, IsFault}
 use Rattle.sc_sort.specs.declared.key.Key.{Key}
 use Rattle.sc_sort.specs.Keys.{Keys}
@@ -21,17 +19,15 @@ use Rattle.sc_cqljson.proofs.Answers as in_trees
 use Rattle.sc_expr.specs.declared.expr.Expr.{Expr}
 use Rattle.sc_expr.specs.declared.fault.CqlFault.{CqlFault}
 use Rattle.sc_expr.specs.declared.fault.CqlFault.TheVariants.{OutOfMemory}
-use Rattle.sc_expr.specs.Query.{Asked}
 use Rattle.sc_query.specs.declared.fault.QueryFault.{QueryFault}
-use Rattle.sc_query.specs.declared.fault.QueryFault.TheVariants.{BadToken}
-use Rattle.sc_query.specs.Words.{limit_name, bbox_name, datetime_name, intersects_name, ids_name, collections_name, language_name, crs_name, filter_name, sort_name, token_name}
+use Rattle.sc_query.specs.Words.{bbox_name, datetime_name, intersects_name, filter_name, token_name}
 use Rattle.sc_query.specs.Given.{Parameter, in_text, in_tree, Parameters, text_given, IsTree}
 use Rattle.sc_query.specs.Reading.{Then, stops, goes_on, Gives, Optional}
-use Rattle.sc_query.specs.Space.{BboxReads, IsBbox, DatetimeReads, IntersectsReads, depicted, not_depicted, no_tree, numbers_given}
+use Rattle.sc_query.specs.Space.{BboxReads, DatetimeReads, IntersectsReads, depicted, not_depicted, no_tree, numbers_given}
 use Rattle.sc_query.specs.Filters as filters
 use Rattle.sc_query.specs.Filters.{FilterReadsIn, FilterReads, language_of}
 use Rattle.sc_query.specs.Order.{TokenReads, place, no_place, no_text}
-use Rattle.sc_query.specs.Query.{Is, FilterOf, SelectOf, QueryOf, QueryOfBody}
+use Rattle.sc_query.specs.Query.{Is, FilterOf, SelectOf, QueryOf}
 use Rattle.sc_chain.proofs.Geometries.{one_geometry, no_fault}
 
 -- where something is read, that alone is

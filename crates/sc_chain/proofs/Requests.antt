@@ -1,5 +1,5 @@
 -- Requests that follow one another give a chain of pages.
-use Rattle.std.proofs.Common.{◌≡◌, List, Option, Some, None, Result, Ok, refl, subst}
+use Rattle.std.proofs.Common.{◌≡◌, List, Some, None, Result, Ok, refl, subst}
 use Rattle.std.specs.List.{All}
 use Rattle.std.proofs.lemmas.List.Sorted.{All-permutation}
 use Rattle.sc_item.specs.Feature.{Feature}

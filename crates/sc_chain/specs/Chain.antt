@@ -1,5 +1,5 @@
 -- The pages of a search that follow one another: each begins where the page before it says (STAC API, Item Search, pagination).
-use Rattle.std.specs.Prelude.{◌≡◌, ℕ, List, [], ◌∷◌, filter, Option, Some, None, IsPermutation}
+use Rattle.std.specs.Prelude.{List, [], ◌∷◌, filter, Option, Some, None, IsPermutation}
 use Rattle.std.specs.List.{flat_map}
 use Rattle.sc_item.specs.Feature.{Feature}
 use Rattle.sc_sort.specs.Keys.{Keys}
