@@ -1,25 +1,23 @@
 //! What follows from the definitions alone. Each function's clause is the law: its body is empty, or cites other laws.
 ghost use Rattle.std.specs.Prelude.{◌≡◌, ℕ, ◌+◌, ◌≤◌, All, List, [], length, filter, Option, Some, Result, Ok};
-ghost use Rattle.sc_item.specs.Feature.{Feature};
-ghost use Rattle.sc_item.specs.Names.{AreApart};
-ghost use Rattle.sc_sort.specs.Keys.{Keys};
-ghost use Rattle.sc_expr.specs.Query.{Asked};
-ghost use Rattle.sc_page.specs.Search.{is_asked};
 ghost use Rattle.form_urlencoded.specs.Form.{extend_pairs, parse};
-ghost use Rattle.sc_page.specs.Linked.{next_pairs};
-ghost use Rattle.sc_token.specs.Token.{token_of};
 ghost use Rattle.sc_json.specs.declared.tree.Json.{Json};
 ghost use Rattle.sc_json.specs.declared.tree.Member.{Member};
 ghost use Rattle.sc_json.specs.Views.{object_of};
-ghost use Rattle.sc_sort.specs.Keys.{AreKept};
+ghost use Rattle.sc_item.specs.Feature.{Feature};
+ghost use Rattle.sc_item.specs.Names.{AreApart};
+ghost use Rattle.sc_sort.specs.Keys.{Keys, AreKept};
+ghost use Rattle.sc_token.specs.Token.{token_of};
 ghost use Rattle.sc_token.specs.Fits.{FitsSort};
 ghost use Rattle.sc_expr.specs.declared.select.Pair.{Pair};
-ghost use Rattle.sc_page.specs.Search.{IsPage};
+ghost use Rattle.sc_expr.specs.Query.{Asked};
+ghost use Rattle.sc_page.specs.Linked.{next_pairs};
+ghost use Rattle.sc_page.specs.Search.{is_asked, IsPage};
 ghost use Rattle.sc_query.specs.declared.fault.QueryFault.{QueryFault};
 ghost use Rattle.sc_query.specs.Given.{Parameters, of_pairs};
 ghost use Rattle.sc_query.specs.Query.{QueryOf, QueryOfBody};
-ghost use Rattle.sc_chain.specs.Next.{next_request, IsNextBody, HasShortName, IsInUtf8, PairsFollowed, BodiesFollowed};
 ghost use Rattle.sc_chain.specs.Chain.{behind, IsAll, IsPageOf, IsChain, joined};
+ghost use Rattle.sc_chain.specs.Next.{next_request, IsNextBody, HasShortName, IsInUtf8, PairsFollowed, BodiesFollowed};
 
 use sc_cqlread::laws::one_answer;
 
