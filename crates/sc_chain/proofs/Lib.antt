@@ -1,0 +1,11 @@
+pub mod Cutting
+pub mod Following
+pub mod Chaining
+pub mod Geometries
+pub mod Queries
+pub mod Asking
+pub mod Pairing
+pub mod Bodies
+pub mod Fitting
+pub mod Requests
+pub mod Addresses
