@@ -151,8 +151,8 @@ def collection_of(name, items):
         },
         "catalogue:cut": "month",
         "links": [
-            {"rel": "root", "type": "application/json", "href": SERVER + "/"},
             {"rel": "self", "type": "application/json", "href": here},
+            {"rel": "root", "type": "application/json", "href": SERVER + "/"},
             {"rel": "items", "type": "application/geo+json", "href": here + "/items"},
             {"rel": "http://www.opengis.net/def/rel/ogc/1.0/queryables", "type": "application/schema+json", "href": here + "/queryables"},
         ],
