@@ -2,6 +2,7 @@
 """proxied.py COMMAND ...: what tests/proxy.sh asks of the server behind a proxy beside curl.
 
     points COUNT FIRST BYTES     prints a FeatureCollection of so many points, each padded by so many bytes
+    local FILE TILE SCENES       prints the scenes of the tile, their picture being that file of 1098 by 1098 pixels
     links BASE URL               the links of the document at the URL begin with BASE
     pages BASE COLLECTION COUNT  by GET and by POST, `next` leads through all items, each once, and stays at BASE
     paths BASE COLLECTION ITEM   each path that BASE/api tells answers GET with 200
@@ -56,10 +57,25 @@ def points(count, first, size):
     json.dump({"type": "FeatureCollection", "features": features}, sys.stdout)
 
 
+def local(file, tile, scenes):
+    with open(scenes) as source:
+        items = [item for item in json.load(source)["features"] if item["properties"]["grid:code"] == "MGRS-" + tile]
+    for item in items:
+        west, _, _, north = item["properties"]["proj:bbox"]
+        shape = {"proj:shape": [1098, 1098], "proj:transform": [100, 0, west, 0, -100, north]}
+        item["assets"] = {"visual": {**item["assets"]["visual"], **shape, "href": file}}
+        del item["collection"]
+    json.dump({"type": "FeatureCollection", "features": items}, sys.stdout)
+
+
 def links_in(tree):
-    if isinstance(tree, dict):
-        return [tree["href"]] * ("rel" in tree and "href" in tree) + [href for part in tree.values() for href in links_in(part)]
-    return [href for part in tree for href in links_in(part)] if isinstance(tree, list) else []
+    """The addresses of all links anywhere in a document."""
+    if isinstance(tree, list):
+        return [href for part in tree for href in links_in(part)]
+    if not isinstance(tree, dict):
+        return []
+    own = [tree["href"]] if "rel" in tree and "href" in tree else []
+    return own + [href for part in tree.values() for href in links_in(part)]
 
 
 def links(base, url):
@@ -180,7 +196,7 @@ def rate(connection, seconds):
 def rates(direct, proxied):
     """By turns, so that both meet the same machine."""
     both = [http.client.HTTPConnection(urllib.parse.urlsplit(base).netloc, timeout=20) for base in (direct, proxied)]
-    counts, seconds, turns = [0, 0], 0.5, 6
+    counts, seconds, turns = [0, 0], 0.5, 8
     for _ in range(turns):
         for k in range(2):
             counts[k] += rate(both[k], seconds)
@@ -189,5 +205,5 @@ def rates(direct, proxied):
     same("at least a third", True, counts[1] * 3 >= counts[0])
 
 
-COMMANDS = {"points": points, "links": links, "pages": pages, "paths": paths, "slow": slow, "rates": rates}
+COMMANDS = {"points": points, "local": local, "links": links, "pages": pages, "paths": paths, "slow": slow, "rates": rates}
 COMMANDS[sys.argv[1]](*sys.argv[2:])
