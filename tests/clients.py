@@ -44,7 +44,7 @@ def qgis():
     application.initQgis()
     uri = "url='%s/' typename='%s' pageSize='1000' pagingEnabled='enabled'" % (BASE, COLLECTION)
     layer = QgsVectorLayer(uri, COLLECTION, "OAPIF")
-    same("the layer (%s)" % layer.error().summary(), True, layer.isValid())
+    same("a layer that is valid", True, layer.isValid())
     same("features", COUNT, sum(1 for _ in layer.getFeatures()))
     del layer
     application.exitQgis()

@@ -18,7 +18,7 @@ done
 unset http_proxy https_proxy all_proxy HTTP_PROXY HTTPS_PROXY ALL_PROXY
 STACD=${STACD:-./stacd}
 SECONDS_TO_START=${SECONDS_TO_START:-20}
-WORKERS=8 # as in the unit
+WORKERS=$(sed -n 's/^ExecStart=.* serve 8080 \([0-9]*\) .*/\1/p' deploy/systemd/stacd.service)
 folder=$(mktemp -d)
 server=
 proxy=
@@ -142,6 +142,17 @@ has() {
     told "$name" 0
 }
 
+# number NAME: the number behind a name in the shipped configuration
+number() { sed -n "s/^ *$1 \([0-9]*\);.*/\1/p" deploy/nginx/nginx.conf; }
+fewer_kept() {
+    echo "$(number keepalive) for each of $(number worker_processes) processes, $WORKERS workers"
+    [ $(($(number keepalive) * $(number worker_processes))) -lt "$WORKERS" ]
+}
+unit_valid() {
+    if ! command -v systemd-analyze >/dev/null; then return 77; fi
+    sed "s#^ExecStart=[^ ]*#ExecStart=$(readlink -f "$STACD")#" deploy/systemd/stacd.service >"$folder/stacd.service"
+    systemd-analyze verify "$folder/stacd.service"
+}
 cmp_examples() {
     mkdir "$folder/made"
     python3 examples/make_scenes.py "$folder/made"
@@ -169,6 +180,8 @@ export SSL_CERT_FILE=$folder/certificate.pem CURL_CA_BUNDLE=$folder/certificate.
 origin='Origin: https://map.example.org'
 items=$base/collections/sentinel-2-l2a/items
 
+runs "fewer connections are kept than there are workers" fewer_kept
+runs "systemd takes the unit" unit_valid
 runs "the examples are what their script makes" cmp_examples
 runs "the examples load" load_examples
 
@@ -272,12 +285,12 @@ gdal_pixels() {
 httpie() {
     installed http
     local by=(timeout 20 http --ignore-stdin --check-status --verify "$folder/certificate.pem")
-    "${by[@]}" --body GET "$base/search" limit==3 sortby==-eo:cloud_cover | grep -q '"numberReturned": *3'
-    "${by[@]}" --body POST "$base/search" limit:=3 'ids:=["p000001"]' | grep -q '"numberReturned": *1'
-    "${by[@]}" --headers HEAD "$base/collections" | grep -q '200'
-    "${by[@]}" --chunked --body POST "$base/search" limit:=2 | grep -q '"numberReturned": *2'
+    "${by[@]}" --body GET "$base/search" limit==3 sortby==-eo:cloud_cover | grep '"numberReturned": *3' >/dev/null
+    "${by[@]}" --body POST "$base/search" limit:=3 'ids:=["p000001"]' | grep '"numberReturned": *1' >/dev/null
+    "${by[@]}" --headers HEAD "$base/collections" | grep 200 >/dev/null
+    "${by[@]}" --chunked --body POST "$base/search" limit:=2 | grep '"numberReturned": *2' >/dev/null
 }
-export QT_QPA_PLATFORM=offscreen HOME=$folder
+export QT_QPA_PLATFORM=offscreen HOME=$folder XDG_RUNTIME_DIR=$folder
 runs "client: a checker of OpenAPI, libjson-validator-perl" openapi_valid
 runs "client: GDAL, ogr2ogr over OAPIF brings all items" gdal_features
 runs "client: GDAL, gdalinfo over STACIT tells all scenes" gdal_scenes
