@@ -151,7 +151,8 @@ fewer_kept() {
 unit_valid() {
     if ! command -v systemd-analyze >/dev/null; then return 77; fi
     sed "s#^ExecStart=[^ ]*#ExecStart=$(readlink -f "$STACD")#" deploy/systemd/stacd.service >"$folder/stacd.service"
-    systemd-analyze verify "$folder/stacd.service"
+    systemd-analyze verify "$folder/stacd.service" 2>&1 | tee "$folder/unit"
+    [ ! -s "$folder/unit" ] # what it only warns of counts too
 }
 cmp_examples() {
     mkdir "$folder/made"
@@ -246,6 +247,9 @@ done
 has "refused: a write by a path that is written otherwise" $'403 Forbidden' --http1.1 -D - --path-as-is -X DELETE "$base/collections/.."
 has "a search from another address" '"numberReturned":1' -d '{"limit":1}' "$base/search"
 again
+
+logged() { awk '$3 == 200 && $5 >= 0 && $7 > 4 && $8 == "\"GET" {found = 1} END {exit !found}' "$folder/access.log"; }
+runs "the log tells statuses, seconds and revisions" logged
 
 # By slow clients, and for speed.
 runs "500 slow clients" python3 tests/proxied.py slow "$bare" 500 12
