@@ -11,8 +11,8 @@ if [ -z "$nginx" ]; then
 fi
 for tool in curl openssl python3; do
     if ! command -v $tool >/dev/null; then
-        echo "tests/proxy.sh: there is no $tool, without which the proxy isn't tried" >&2
-        exit 1
+        echo "tests/proxy.sh: SKIPPED: there is no $tool, without which the proxy isn't tried" >&2
+        exit 0
     fi
 done
 unset http_proxy https_proxy all_proxy HTTP_PROXY HTTPS_PROXY ALL_PROXY
