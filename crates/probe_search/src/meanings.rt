@@ -42,6 +42,12 @@ fn value_answer(alloc: Global, value: &Value) -> Result<String, AllocError> {
     }
 }
 
+/// What a name gives of an item.
+fn named_answer(alloc: Global, name: &Text, item: &Item) -> Result<String, AllocError> {
+    let value = value_of(name, item);
+    value_answer(alloc, &value)
+}
+
 /// `value`: a name and an item behind it; what the name gives of the item.
 pub fn value(alloc: Global, input: &[u8]) -> Result<Option<String>, AllocError> {
     let Some((name, text)) = two_lines(input) else {
@@ -52,7 +58,7 @@ pub fn value(alloc: Global, input: &[u8]) -> Result<Option<String>, AllocError> 
     };
     match read_line(alloc, text)? {
         None => Ok(None),
-        Some(item) => Ok(Some(value_answer(alloc, &value_of(&name, &item))?)),
+        Some(item) => Ok(Some(named_answer(alloc, &name, &item)?)),
     }
 }
 

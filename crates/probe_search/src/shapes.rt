@@ -8,14 +8,15 @@ use std::alloc::{AllocError, Global};
 const DEGREE: u64 = 10_000_000;
 
 /// Adds the places behind the point, of which there are seven, up to the last that isn't 0.
-fn push_places(out: &mut String, steps: u64) -> Result<(), AllocError> {
+fn push_places(out: &mut String, alloc: Global, steps: u64) -> Result<(), AllocError> {
     let mut left = steps;
     for _ in 0..7 {
         if left == 0 {
             break;
         }
         let digit = left / 1_000_000;
-        out.push((b'0'.wrapping_add(digit as u8)) as char)?;
+        let text = format!(in alloc; "{digit}")?;
+        out.push_str(text.as_str())?;
         left = (left % 1_000_000).wrapping_mul(10);
     }
     Ok(())
@@ -34,7 +35,7 @@ fn push_degrees(out: &mut String, alloc: Global, steps: i64) -> Result<(), Alloc
         return Ok(());
     }
     out.push_str(".")?;
-    push_places(out, size % DEGREE)
+    push_places(out, alloc, size % DEGREE)
 }
 
 fn push_position(out: &mut String, alloc: Global, position: &Pt) -> Result<(), AllocError> {
