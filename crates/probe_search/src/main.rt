@@ -11,8 +11,6 @@ mod keys;
 mod meanings;
 mod queries;
 mod shapes;
-#[cfg(test)]
-mod tests;
 mod trees;
 
 use std::alloc::{AllocError, Global};
@@ -27,7 +25,6 @@ fn answer(alloc: Global, kind: &[u8], input: &[u8]) -> Result<Option<String>, Al
         b"key" => keys::key(alloc, input),
         b"query-get" => queries::query_get(alloc, input),
         b"query-post" => Ok(Some(queries::query_post(alloc, input)?)),
-        b"value" => meanings::value(alloc, input),
         _ => Ok(None),
     }
 }

@@ -1,8 +1,6 @@
 use sc_cqltext::{CqlFault, Filter, read_text};
-use sc_decimal::Dec;
-use sc_eval::{Truth3, Value, eval, value_of};
-use sc_item::{Item, Text, read_line};
-use sc_json::push_quoted;
+use sc_eval::{Truth3, eval};
+use sc_item::{Item, read_line};
 use std::alloc::{AllocError, Global};
 
 /// The two parts of an input, before and behind its first line feed.
@@ -11,55 +9,6 @@ pub fn two_lines(input: &[u8]) -> Option<(&[u8], &[u8])> {
     let (first, rest) = input.split_at(feed);
     let (_, second) = rest.split_first()?;
     Some((first, second))
-}
-
-fn text_answer(alloc: Global, text: &Text) -> Result<String, AllocError> {
-    let mut answer = String::from_str(alloc, "Text ")?;
-    push_quoted(&mut answer, text.as_str())?;
-    Ok(answer)
-}
-
-fn number_answer(alloc: Global, number: &Dec) -> Result<String, AllocError> {
-    let mut digits = Vec::new(alloc);
-    number.push_literal(&mut digits)?;
-    let literal = String::from_utf8_lossy(alloc, digits.as_slice())?;
-    format!(in alloc; "Number {literal}")
-}
-
-fn value_answer(alloc: Global, value: &Value) -> Result<String, AllocError> {
-    match value {
-        Value::Absent => String::from_str(alloc, "Absent"),
-        Value::Text(text) => text_answer(alloc, text),
-        Value::Number(number) => number_answer(alloc, number),
-        Value::Truth(true) => String::from_str(alloc, "Truth true"),
-        Value::Truth(false) => String::from_str(alloc, "Truth false"),
-        Value::Moment(at) => {
-            let moment = at.nanoseconds();
-            format!(in alloc; "Moment {moment}")
-        }
-        Value::Shape(_) => String::from_str(alloc, "Shape"),
-        Value::Other => String::from_str(alloc, "Other"),
-    }
-}
-
-/// What a name gives of an item.
-fn named_answer(alloc: Global, name: &Text, item: &Item) -> Result<String, AllocError> {
-    let value = value_of(name, item);
-    value_answer(alloc, &value)
-}
-
-/// `value`: a name and an item behind it; what the name gives of the item.
-pub fn value(alloc: Global, input: &[u8]) -> Result<Option<String>, AllocError> {
-    let Some((name, text)) = two_lines(input) else {
-        return Ok(None);
-    };
-    let Some(name) = Text::of(alloc, name)? else {
-        return Ok(None);
-    };
-    match read_line(alloc, text)? {
-        None => Ok(None),
-        Some(item) => Ok(Some(named_answer(alloc, &name, &item)?)),
-    }
 }
 
 fn truth_word(truth: Truth3) -> &'static str {
