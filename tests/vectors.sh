@@ -1,5 +1,5 @@
 #!/usr/bin/env bash
-# Runs the built programs over the stored cases: whole runs of `stacd page` and `stacd pipe`, and single questions to `probe`.
+# Runs the built programs over the stored cases: whole runs of `stacd page` and `stacd pipe`, and single questions to `probe` and `probe_search`.
 set -e
 cd "$(dirname "${BASH_SOURCE[0]}")/.."
 if ! command -v python3 >/dev/null; then
@@ -8,9 +8,17 @@ if ! command -v python3 >/dev/null; then
 fi
 ./stacd page 1 </dev/null >/dev/null
 python3 tests/runs.py crates/stacd/out/stacd tests/vectors/{page,pipe,pipe-head,pipe-token}
-probe=crates/probe/out/probe
-if [ ! -x "$probe" ] || [ -n "$(find crates/*/src -newer "$probe" -name '*.rt' -print -quit)" ]; then
-    echo "tests/vectors.sh: proves and builds the probe first, which takes minutes" >&2
-    (cd crates/probe && rt run >/dev/null </dev/null)
-fi
-python3 tests/parts.py "$probe" tests/vectors/*.txt
+
+# Asks a program, which is built where it isn't, the questions of files.
+ask() {
+    local name=$1 program=crates/$1/out/$1
+    shift
+    if [ ! -x "$program" ] || [ -n "$(find crates/*/src -newer "$program" -name '*.rt' -print -quit)" ]; then
+        echo "tests/vectors.sh: proves and builds $name first, which takes minutes" >&2
+        (cd "crates/$name" && rt run >/dev/null </dev/null)
+    fi
+    python3 tests/parts.py "$program" "$@"
+}
+
+ask probe tests/vectors/*.txt
+ask probe_search tests/vectors/search/*.txt
