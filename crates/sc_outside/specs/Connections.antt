@@ -3,9 +3,10 @@ use Rattle.std.specs.Prelude.{◌≡◌, ℕ, ◌<◌, ◌≤◌, ◌+◌, List,
 use Rattle.std.specs.declared.option.Option.{Option}
 use Rattle.std.specs.declared.result.Result.{Result}
 
--- a known list or number stays as it was
+-- a known list or number stays as it was, and one that isn't told stays untold
 abbrev pub Stays : {X : Type 0} → Option X → Option X → Type 0
-Stays None new = ⊤
+Stays None None = ⊤
+Stays None (Some y) = ⊥
 Stays (Some x) None = ⊥
 Stays (Some x) (Some y) = y ≡ x
 
@@ -15,9 +16,10 @@ HandsOut None new x = ⊤
 HandsOut (Some xs) None x = ⊥
 HandsOut (Some xs) (Some ys) x = xs ≡ x ∷ ys
 
--- the known number rises by one
+-- the known number rises by one, and one that isn't told stays untold
 abbrev pub CountsUp : Option ℕ → Option ℕ → Type 0
-CountsUp None new = ⊤
+CountsUp None None = ⊤
+CountsUp None (Some m) = ⊥
 CountsUp (Some n) None = ⊥
 CountsUp (Some n) (Some m) = m ≡ n + 1
 
