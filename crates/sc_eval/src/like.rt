@@ -1,5 +1,5 @@
 //! LIKE: elements up to a run are taken from the front of a text, and a run goes on to the first place from which the
-//! elements behind it fit, up to the next run. Nothing before that place is property at again.
+//! elements behind it fit, up to the next run. Nothing before that place is tried again.
 ghost use Rattle.std.specs.Prelude.{◌≡◌, ◌∷◌, [], ◌+◌, ◌<◌, ◌≤◌, length, chars, MatchOption, false};
 ghost use Rattle.sc_eval.specs.declared.like.Element.TheVariants as parts;
 ghost use Rattle.sc_eval.specs.Like.{elements, fits, front, front_of, is_nothing, is_run, plain, suits};

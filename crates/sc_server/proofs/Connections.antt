@@ -9,7 +9,6 @@ use Rattle.sc_session.specs.declared.ending.ConnEnd.{ConnEnd}
 use Rattle.sc_session.specs.Service.{Service}
 use Rattle.sc_session.specs.Session.{Session}
 use Rattle.sc_server.specs.Listening.{HandsOutAll, AreAll, TakesBackAll, place_of, AreServed, IsListened, ListensOnce}
-use Rattle.sc_server.specs.Steady.{AreAlike}
 use Rattle.sc_server.specs.declared.listening.Asked.{Asked}
 use Rattle.sc_server.specs.declared.listening.Asked.TheVariants as asked
 
@@ -65,17 +64,14 @@ taken_then (Some xs) (Some ys) None x a b = absurd b
 taken_then (Some xs) (Some ys) (Some zs) x a b = b ∙ ap (λ t. t ++ x ∷ []) a
 
 -- a connection that was handed out may be handed back
-pub owed : {X : Type 0} (out out' : Option ℕ) (back back' : Option (List X)) → AreAlike out out' → AreAlike back back' → AtMostOut out back → CountsUp out out' → Stays back back' → IsOwed out' back'
-owed None None back back' s t most up stays = tt
-owed None (Some m) back back' s t most up stays = absurd s
-owed (Some n) None back back' s t most up stays = tt
-owed (Some n) (Some m) None None s t most up stays = tt
-owed (Some n) (Some m) None (Some ys) s t most up stays = absurd t
-owed (Some n) (Some m) (Some xs) None s t most up stays = tt
-owed (Some n) (Some m) (Some xs) (Some ys) s t most up stays = omega (arith, most, up, ap length stays)
-
-rose_later : (a b c : ℕ) → a ≤ b → Rose b c → Rose a c
-rose_later a b c l r = omega (arith, l, r)
+pub owed : {X : Type 0} (out out' : Option ℕ) (back back' : Option (List X)) → AtMostOut out back → CountsUp out out' → Stays back back' → IsOwed out' back'
+owed None None back back' most up stays = tt
+owed None (Some m) back back' most up stays = absurd up
+owed (Some n) None back back' most up stays = absurd up
+owed (Some n) (Some m) None None most up stays = tt
+owed (Some n) (Some m) None (Some ys) most up stays = absurd stays
+owed (Some n) (Some m) (Some xs) None most up stays = absurd stays
+owed (Some n) (Some m) (Some xs) (Some ys) most up stays = omega (arith, most, up, ap length stays)
 
 module _ {In Out E L J : Type 0} (left : In → Option (List ℕ)) (ended : In → Bool) (faults : In → ℕ) (written : Out → Option (List ℕ)) (write_faults : Out → ℕ) (service : Service E L J) where
   served_more : (cs ds : List (In × Out)) (c d : In × Out) (end : ConnEnd) (old mid new : Visitor E)

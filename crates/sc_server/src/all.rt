@@ -4,10 +4,10 @@ ghost use Rattle.sc_turn.specs.Passes.{desk_id, desk_passes, AreNew};
 ghost use Rattle.sc_serve.specs.Service.{api};
 ghost use Rattle.sc_server.specs.Workers.{AreBound, AreWorked, AreBack, IsServed};
 
-use crate::steady::Steady;
 use crate::worker::Worker;
 use sc_base::{Seq, Text};
 use sc_desk::{Card, Catalogue, Desk, close, make};
+use sc_outside::Listen;
 use std::alloc::{AllocError, Global};
 use std::sync::Wait;
 use std::thread;
@@ -25,7 +25,7 @@ pub struct Served<L> {
 }
 
 /// A worker for each listener, with the passes of the desk's cards in their order.
-fn bind_all<'d, L: Steady + Drop>(
+fn bind_all<'d, L: Listen + Drop>(
     desk: &'d Desk<Catalogue>,
     cards: Vec<Card<Catalogue>>,
     nets: Vec<L>,
@@ -47,7 +47,7 @@ fn bind_all<'d, L: Steady + Drop>(
 
 /// Serves all listeners at the same time, each by its worker in a thread of its own; where a thread can't be started the
 /// caller does its work.
-fn work_all<'d, R: Threads + Wait + Sync, L: Steady + Send>(
+fn work_all<'d, R: Threads + Wait + Sync, L: Listen + Send>(
     rt: &R,
     alloc: Global,
     base: &Text,
@@ -70,7 +70,7 @@ where
 }
 
 /// The cards and the listeners of the workers, and whether a listener failed.
-fn unbind_all<'d, L: Steady + Drop>(
+fn unbind_all<'d, L: Listen + Drop>(
     workers: Vec<Worker<'d, L>>,
     mut cards: Vec<Card<Catalogue>>,
     mut nets: Vec<L>,
@@ -92,7 +92,7 @@ fn unbind_all<'d, L: Steady + Drop>(
 /// Serves the connections of all listeners over one new catalogue, until each listener has none left or has failed, or
 /// `most` of its connections were served. Each listener is served by a worker in a thread of its own, one connection after
 /// the other, and the workers take turns at the one catalogue. The condition is that there are 1 to 64 listeners. It waits.
-pub fn serve_all<R: Threads + Wait + Sync, L: Steady + Send + Drop>(
+pub fn serve_all<R: Threads + Wait + Sync, L: Listen + Send + Drop>(
     rt: &R,
     alloc: Global,
     base: &Text,

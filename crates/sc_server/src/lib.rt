@@ -3,8 +3,6 @@
 
 mod all;
 mod listening;
-mod steady;
 mod worker;
 
 pub use all::{Served, serve_all};
-pub use steady::Steady;

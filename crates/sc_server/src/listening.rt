@@ -3,10 +3,9 @@ ghost use Rattle.std.specs.Prelude.{◌≡◌, ◌≤◌, ℕ, length};
 ghost use Rattle.sc_serve.specs.Service.{api};
 ghost use Rattle.sc_server.specs.Listening.{IsListened, ListensOnce};
 
-use crate::steady::Steady;
 use sc_base::Text;
 use sc_desk::DeskPass;
-use sc_outside::Failed;
+use sc_outside::{Failed, Listen};
 use sc_serve::serve_connection;
 use std::alloc::Global;
 use std::sync::Wait;
@@ -23,7 +22,7 @@ pub(crate) enum Asked {
 }
 
 /// Serves the next connection of the listener, and hands it back after its end.
-pub(crate) fn serve_next<'d, R: Wait, L: Steady>(
+pub(crate) fn serve_next<'d, R: Wait, L: Listen>(
     rt: &R,
     alloc: Global,
     base: &Text,
@@ -46,7 +45,7 @@ pub(crate) fn serve_next<'d, R: Wait, L: Steady>(
 /// Serves the connections of the listener one after the other, at most so many, and answers whether the listener failed.
 /// It ends where the listener has none left or fails, or where that many were served; the end of a connection ends nothing
 /// else.
-pub(crate) fn serve_connections<'d, R: Wait, L: Steady>(
+pub(crate) fn serve_connections<'d, R: Wait, L: Listen>(
     rt: &R,
     alloc: Global,
     base: &Text,

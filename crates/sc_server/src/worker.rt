@@ -6,9 +6,9 @@ ghost use Rattle.sc_serve.specs.Service.{api};
 ghost use Rattle.sc_server.specs.Workers.{IsWorked, AreParts};
 
 use crate::listening::serve_connections;
-use crate::steady::Steady;
 use sc_base::Text;
 use sc_desk::{Card, Catalogue, DeskPass, Pass};
+use sc_outside::Listen;
 use std::alloc::Global;
 use std::sync::Wait;
 
@@ -20,7 +20,7 @@ pub(crate) struct Worker<'d, L> {
     failed: bool,
 }
 
-impl<'d, L: Steady> Worker<'d, L> {
+impl<'d, L: Listen> Worker<'d, L> {
     /// A worker that has served nothing.
     pub fn new(net: L, pass: Pass<'d, Catalogue>) -> Worker<'d, L>
         requires { IsOutside pass }

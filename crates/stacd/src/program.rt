@@ -9,10 +9,9 @@ use crate::page::{PageEnd, page};
 use crate::serving;
 use crate::serving::serve;
 use crate::tell::{tell_connection, tell_end, tell_no_memory, tell_serving, tell_usage};
-use sc_outside::{Seq, Sink, Source};
+use sc_outside::{Listen, Seq, Sink, Source};
 use sc_page::Text;
 use sc_serve::{ConnEnd, pipe};
-use sc_server::Steady;
 use sc_words::{Command, command_of};
 use std::alloc::{AllocError, Global};
 use std::sync::Wait;
@@ -59,7 +58,7 @@ pub(crate) fn lent<'a>(alloc: Global, words: &'a [Text]) -> Result<Vec<&'a str>,
 }
 
 /// Does what a command asks for, and answers its status.
-fn run<R: Threads + Wait + Sync, S: Source, K: Sink, E: Sink, L: Steady + Send + Drop>(
+fn run<R: Threads + Wait + Sync, S: Source, K: Sink, E: Sink, L: Listen + Send + Drop>(
     rt: &R,
     alloc: Global,
     command: Command<'_>,
@@ -113,7 +112,7 @@ where
 /// output failed. 6: memory was wanting. 7: a listener failed. But for 0 it tells a text on `errors`; where that fails, the
 /// status stays. The condition is that there are as many listeners as a command `serve` asks workers for. It waits where
 /// it serves.
-pub fn stacd<R: Threads + Wait + Sync, S: Source, K: Sink, E: Sink, L: Steady + Send + Drop>(
+pub fn stacd<R: Threads + Wait + Sync, S: Source, K: Sink, E: Sink, L: Listen + Send + Drop>(
     rt: &R,
     alloc: Global,
     words: &[Text],

@@ -6,8 +6,8 @@ use arrayvec::ArrayString;
 use itoa::Buffer;
 use sc_base::{Seq, Text};
 use sc_catalog::Catalogue;
-use sc_outside::{Sink, write_all};
-use sc_server::{Served, Steady, serve_all};
+use sc_outside::{Listen, Sink, write_all};
+use sc_server::{Served, serve_all};
 use sc_words::Serving;
 use std::alloc::{AllocError, Global};
 use std::mem;
@@ -96,7 +96,7 @@ pub fn status_of_end(end: ServeEnd) -> u8
 
 /// Serves the listeners over one new catalogue, each by a worker of its own, and writes the line of its history at the end.
 /// After want of memory the listeners may be gone.
-pub fn serve<R: Threads + Wait + Sync, K: Sink, L: Steady + Send + Drop>(
+pub fn serve<R: Threads + Wait + Sync, K: Sink, L: Listen + Send + Drop>(
     rt: &R,
     alloc: Global,
     serving: Serving,

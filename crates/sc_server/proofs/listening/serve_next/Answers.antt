@@ -6,7 +6,7 @@ pub done-requires : goal.done-requires
 done-requires g c =
     let got = rw c.in-Ok-Some.field-0-is at c.in-Ok-Some.ensures.connections in
     owed (g.L.Listen.handed_out c.args.net.now) (g.L.Listen.handed_out c.accept.new.self) (g.L.Listen.handed_back c.args.net.now) (g.L.Listen.handed_back c.accept.new.self)
-    (g.met.L.Steady.tells_out c.args.net.now c.accept.new.self) (g.met.L.Steady.tells_back c.args.net.now c.accept.new.self) (g.met.L.Listen.fewer_back c.args.net.now) got.1 c.in-Ok-Some.ensures.back
+    (g.met.L.Listen.fewer_back c.args.net.now) got.1 c.in-Ok-Some.ensures.back
 
 pub returns-in-Ok-Some : goal.returns-in-Ok-Some
 returns-in-Ok-Some g c =
