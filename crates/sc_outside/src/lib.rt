@@ -1,7 +1,8 @@
-//! The outside, as the rest of the program sees it: sources, sinks and listeners that count their faults, and a count of
+//! The outside, as the rest of the program sees it: sources, sinks and listeners that count their faults, gates, and a count of
 //! steps.
 #![tactic(auto)]
 
+mod gate;
 mod lines;
 mod listen;
 mod mem_listen;
@@ -14,6 +15,7 @@ mod steps;
 mod tests;
 mod writing;
 
+pub use gate::{Gate, OpenGate, RestGate};
 pub use lines::{line_without_feed, next_line};
 pub use listen::Listen;
 pub use mem_listen::MemListen;
