@@ -7,8 +7,6 @@ pub mod laws;
 mod moments;
 mod places;
 mod reach;
-#[cfg(test)]
-mod tests;
 
 pub use bounds::{Bounds, covers, join, meet, widen};
 pub use hull::hull_of;

@@ -11,8 +11,6 @@ mod operator;
 mod read;
 mod scalar;
 mod shape;
-#[cfg(test)]
-mod tests;
 mod words;
 
 pub use read::read_tree;

@@ -6,8 +6,6 @@ mod nesting;
 mod read;
 mod reading;
 mod taking;
-#[cfg(test)]
-mod tests;
 
 pub use read::read_text;
 pub use sc_expr::{CqlFault, Expr, Filter};

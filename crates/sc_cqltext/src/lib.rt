@@ -2,8 +2,6 @@
 //! is read as that filter and as no other.
 #![tactic(auto)]
 
-#[cfg(test)]
-mod tests;
 mod write;
 
 pub use sc_base::Text;

@@ -13,8 +13,6 @@ mod put;
 mod scalar;
 mod shape;
 mod state;
-#[cfg(test)]
-mod tests;
 mod values;
 
 pub use exprs::Exprs;

@@ -9,8 +9,6 @@ mod predicates;
 mod scalars;
 mod spellable;
 mod spelling;
-#[cfg(test)]
-mod tests;
 mod write;
 
 pub use fault::SpellFault;

@@ -7,8 +7,6 @@ mod entering;
 pub mod laws;
 mod meeting;
 mod segment;
-#[cfg(test)]
-mod tests;
 mod touching;
 
 pub use boxed::meets_rects;

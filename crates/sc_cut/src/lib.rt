@@ -7,8 +7,6 @@ mod key;
 pub mod laws;
 mod name;
 mod span;
-#[cfg(test)]
-mod tests;
 
 pub use cut::Cut;
 pub use key::{is_key, key_of};

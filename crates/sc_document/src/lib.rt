@@ -4,8 +4,6 @@
 mod documents;
 mod links;
 mod list;
-#[cfg(test)]
-mod tests;
 
 pub use documents::{conformance_text, landing_text, queryables_text};
 pub use list::collections_text;

@@ -12,8 +12,6 @@ mod query;
 mod same;
 mod scalar;
 mod select;
-#[cfg(test)]
-mod tests;
 
 pub use expr::{CompOp, Expr, Truth3};
 pub use fault::{CqlFault, ExprFault};

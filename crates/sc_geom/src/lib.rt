@@ -17,8 +17,6 @@ mod place;
 mod point;
 mod read;
 mod rects;
-#[cfg(test)]
-mod tests;
 mod tree;
 
 pub use area::Area;

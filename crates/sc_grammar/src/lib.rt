@@ -8,8 +8,6 @@
 mod laws;
 mod lexeme;
 mod lexing;
-#[cfg(test)]
-mod tests;
 mod token;
 mod words;
 

@@ -19,8 +19,6 @@ mod request;
 mod room;
 mod settle;
 mod status;
-#[cfg(test)]
-mod tests;
 
 pub use fault::{HeadFault, HttpEnd, LengthFault};
 pub use headers::find_header;

@@ -10,8 +10,6 @@ mod parts;
 mod patch;
 mod read;
 mod shape;
-#[cfg(test)]
-mod tests;
 mod times;
 mod trees;
 mod whole;

@@ -10,8 +10,6 @@ mod load;
 mod patch;
 mod read;
 mod replace;
-#[cfg(test)]
-mod tests;
 mod trees;
 mod words;
 

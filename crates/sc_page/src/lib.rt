@@ -15,8 +15,6 @@ mod links;
 mod order;
 mod page;
 mod search;
-#[cfg(test)]
-mod tests;
 mod text;
 
 pub use compare::{compare_items, compare_with_key};

@@ -6,8 +6,6 @@ mod method;
 mod operation;
 mod resource;
 mod target;
-#[cfg(test)]
-mod tests;
 
 pub use endpoint::Routes;
 pub use operation::{Operation, PlaceFault, operation_of};

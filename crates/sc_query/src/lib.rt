@@ -10,8 +10,6 @@ mod names;
 mod order;
 mod query;
 mod space;
-#[cfg(test)]
-mod tests;
 mod words;
 
 pub use fault::QueryFault;

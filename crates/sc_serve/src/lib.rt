@@ -9,8 +9,6 @@ pub mod laws;
 mod loading;
 mod lone;
 mod reading;
-#[cfg(test)]
-mod tests;
 
 pub use connection::{pipe, serve_connection};
 pub use desk::Desk;

@@ -13,8 +13,6 @@ mod parts;
 mod publish;
 mod snapshot;
 mod split;
-#[cfg(test)]
-mod tests;
 mod ticket;
 mod touch;
 mod version;

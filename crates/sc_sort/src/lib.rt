@@ -8,8 +8,6 @@ mod key_list;
 pub mod laws;
 mod names;
 mod part;
-#[cfg(test)]
-mod tests;
 mod text;
 mod tree;
 mod value;

@@ -8,8 +8,6 @@ mod instant;
 pub mod laws;
 mod range;
 mod read;
-#[cfg(test)]
-mod tests;
 mod write;
 
 pub use civil::{month_of, year_of};

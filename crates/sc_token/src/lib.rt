@@ -7,8 +7,6 @@ pub mod laws;
 mod list;
 mod moment;
 mod read;
-#[cfg(test)]
-mod tests;
 mod value;
 mod write;
 

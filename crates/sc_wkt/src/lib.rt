@@ -9,8 +9,6 @@ mod marks;
 mod read;
 mod reading;
 mod taking;
-#[cfg(test)]
-mod tests;
 mod wkt;
 
 pub use drawing::Drawing;

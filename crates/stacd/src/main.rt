@@ -10,8 +10,6 @@ mod page;
 mod program;
 mod serving;
 mod tell;
-#[cfg(test)]
-mod tests;
 
 ghost use Rattle.std.specs.Prelude.{◌≡◌, ℕ, IfOk, length, map};
 ghost use Rattle.sc_words.specs.Asks.{AreServeWords};
