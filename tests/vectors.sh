@@ -1,5 +1,6 @@
 #!/usr/bin/env bash
-# Runs the built programs over the stored cases: whole runs of `stacd page` and `stacd pipe`, and single questions to `probe` and `probe_search`.
+# Runs the built programs over the stored cases: whole runs of `stacd page` and `stacd pipe`, and single questions to `probe` and
+# `probe_search`; and over hostile input.
 set -e
 cd "$(dirname "${BASH_SOURCE[0]}")/.."
 if ! command -v python3 >/dev/null; then
@@ -8,6 +9,7 @@ if ! command -v python3 >/dev/null; then
 fi
 ./stacd page 1 </dev/null >/dev/null
 python3 tests/runs.py crates/stacd/out/stacd tests/vectors/{page,pipe,pipe-head,pipe-token}
+python3 tests/hostile.py crates/stacd/out/stacd
 
 # Asks a program, which is built where it isn't, the questions of files.
 ask() {
