@@ -1,8 +1,8 @@
 -- What calls told and heard, weighed.
-use Rattle.std.proofs.Common.{◌≡◌, ℕ, suc, ◌+◌, ◌≤◌, Bool, cond, List, [], ◌∷◌, ◌++◌, length, filter, sym, refl, ap, ◌∙◌, arith}
+use Rattle.std.proofs.Common.{◌≡◌, ℕ, ◌+◌, ◌<◌, ◌≤◌, Bool, cond, All, List, [], ◌∷◌, ◌++◌, length, length-append, filter, sym, refl, ap, subst, ◌∙◌, arith}
 use Rattle.std.specs.List.{sum_by, count_by, flat_map}
 use Rattle.std.proofs.lemmas.Grind.{flat_map-append}
-use Rattle.std.proofs.lemmas.List.{append-nil, append-assoc}
+use Rattle.std.proofs.lemmas.List.{append-nil, append_assoc, get_or_append_left}
 use Rattle.std.proofs.lemmas.List.Sums.{length-filter, sum_by-append, sum_by-cons}
 use Rattle.crossbeam_queue.specs.Fifo.{Held}
 use Rattle.sc_notice.specs.declared.protocol.Hand.{Hand}
@@ -14,7 +14,7 @@ use Rattle.sc_notice.specs.Callers.{Caller, AreWaiting, Closes, all_calls, heard
 
 pub ones : {X : Type 0} (xs : List X) → sum_by (λ x. 1) xs ≡ length xs
 ones [] = refl
-ones (x ∷ xs) = sum_by-cons (λ y. 1) x xs ∙ ap suc (ones xs)
+ones {X} (x ∷ xs) = omega (arith, sum_by-cons (λ (y : X). 1) x xs, ones xs)
 
 -- ---- one call more
 
@@ -52,8 +52,11 @@ hand_is {a} {b} {l} {m} {p} {q} shares told heard = ap (λ x. hand x l p) shares
 pub with_another : (v : Hand) (cards : List Caller) (card : Caller) → with_cards v (cards ++ card ∷ [])
     ≡ hand ((with_cards v cards).shares + card.shares) ((with_cards v cards).told ++ told_in card.calls) ((with_cards v cards).heard ++ heard_in card.calls)
 with_another v cards card = hand_is (omega (arith, sum_by-append (λ (c : Caller). c.shares) cards (card ∷ [])))
-    (ap (λ l. v.told ++ l) (all_told cards card) ∙ sym (append-assoc v.told (told_in (all_calls cards)) (told_in card.calls)))
-    (ap (λ l. v.heard ++ l) (all_heard cards card) ∙ sym (append-assoc v.heard (heard_in (all_calls cards)) (heard_in card.calls)))
+    (ap (λ l. v.told ++ l) (all_told cards card) ∙ sym (append_assoc v.told (told_in (all_calls cards)) (told_in card.calls)))
+    (ap (λ l. v.heard ++ l) (all_heard cards card) ∙ sym (append_assoc v.heard (heard_in (all_calls cards)) (heard_in card.calls)))
+
+pub all_front : (P : Caller → Type 0) (cards front : List Caller) (card : Caller) → cards ≡ front ++ card ∷ [] → All P cards → All P front
+all_front P cards front card is each k d lt = subst P (get_or_append_left front (card ∷ []) d k lt) (subst (All P) is each k d (omega (arith, length-append front (card ∷ []))))
 
 weigh : (weight : Notice → ℕ) (a b : List Notice) → sum_by weight (b ++ a) ≡ sum_by weight (a ++ b)
 weigh weight a b = omega (arith, sum_by-append weight a b, sum_by-append weight b a)
@@ -73,3 +76,17 @@ closes cards front card n items is count weighed = record {
         let told = ap (λ l. sum_by weight (told_in (all_calls l))) is ∙ ap (sum_by weight) (all_told front card) ∙ weigh weight (told_in card.calls) (told_in (all_calls front)) in
         let heard = ap (λ l. sum_by weight (heard_in (all_calls l))) is ∙ ap (sum_by weight) (all_heard front card) ∙ weigh weight (heard_in card.calls) (heard_in (all_calls front)) in
         told ∙ weighed weight ∙ ap (λ k. k + sum_by weight items) (sym heard)
+
+-- a seat that has taken in all cards learns how many notices the queue holds
+pub closed : (cards front : List Caller) (card : Caller) (n : ℕ) (v : Hand) → cards ≡ front ++ card ∷ [] → sum_by (λ card. card.shares) cards ≡ 1_024
+    → v ≡ with_cards (hand card.shares (told_in card.calls) (heard_in card.calls)) front → Held n (KnowsAll v) → Closes cards n
+closed cards front card n v is all known moment =
+    closes cards front card n moment.0 is moment.1
+    (λ weight. subst (λ (h : Hand). sum_by weight h.told ≡ sum_by weight h.heard + sum_by weight moment.0) known (moment.2 whole weight))
+  where
+    whole : v.shares ≡ 1_024
+    whole =
+        let parts = sum_by-append (λ (c : Caller). c.shares) front (card ∷ []) in
+        let sums = ap (sum_by (λ (c : Caller). c.shares)) is in
+        let shares = ap (λ (h : Hand). h.shares) known in
+        omega (arith, parts, sums, shares, all)

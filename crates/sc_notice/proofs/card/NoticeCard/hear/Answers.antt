@@ -13,4 +13,4 @@ returns-in-None-clause-empty g c all is_none =
     let is = ap (λ (x : Caller). x.shares) c.self.view_is in
     let whole : (view c.self.inside.seat).shares ≡ 1_024 = omega arith in
     subst (λ (x : Caller). AreWaiting x.calls 0) c.self.view_is
-        (knows (view c.self.inside.seat) c.self.inside.pen.me.0 0 c.self.invariant.told c.self.invariant.heard whole c.in-None.ensures.rule.1)
+    (knows (view c.self.inside.seat) c.self.inside.pen.me.0 0 c.self.invariant.told c.self.invariant.heard whole c.in-None.ensures.rule.1)
