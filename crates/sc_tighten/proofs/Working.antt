@@ -47,7 +47,7 @@ total_counted [] count = omega arith
 total_counted (first ∷ more) count = let one = total_plus first count in let rest = total_counted more (plus first count) in omega (arith, one, rest)
 
 pub total_is : (outcomes : List Outcome) (count : WorkCount) → count ≡ counted outcomes no_turn → total count ≡ length outcomes
-total_is outcomes count is = ap total is ∙ total_counted outcomes no_turn
+total_is outcomes count is = let same = ap total is in let sum = total_counted outcomes no_turn in omega (arith, same, sum)
 
 -- ---- the turns at the desk
 
@@ -58,7 +58,7 @@ module _ {E : Type 0} (numbers : E → ℕ) where
   join_turns (own ∷ owns) more old mid new first turns = (first.0, first.1, join_turns owns more first.0 mid new first.2 turns)
 
 -- turns that add no entry
-abbrev Quiet : Visitor Entry → Visitor Entry → Type 0
+abbrev pub Quiet : Visitor Entry → Visitor Entry → Type 0
 Quiet old new = (owns : List (List Entry)) × All (λ own. own ≡ []) owns × TakesTurns by owns old new
 
 quiet_none : (old new : Visitor Entry) → new ≡ old → Quiet old new
@@ -90,7 +90,7 @@ turn_quiet (Told told) old new is = part_quiet is.0 (Told told) old.desk new.des
 turn_quiet NoMemory old new is = part_quiet is.0 NoMemory old.desk new.desk is.2
 
 turns_quiet : (outcomes : List Outcome) (old new : Tightener) → WorkTurns outcomes old new → Quiet old.desk new.desk
-turns_quiet [] old new is = quiet_none old.desk new.desk (ap (λ x. x.desk) is)
+turns_quiet [] old new is = quiet_none old.desk new.desk (ap (λ (x : Tightener). x.desk) is)
 turns_quiet (first ∷ more) old new is = quiet_join old.desk is.0.desk new.desk (turn_quiet first old is.0 is.1) (turns_quiet more is.0 new is.2)
 
 pub work_quiet : (turns : ℕ) (done : WorkDone) (old new : Tightener) → Works turns done old new → Quiet old.desk new.desk
@@ -100,7 +100,7 @@ work_quiet turns (Stopped count) old new is = quiet_join old.desk is.1.desk new.
 -- ---- the calls of the notices' pass
 
 -- it is the pass of the same queue, and has told no more
-record Listens (old new : Caller) : Type 0 where
+pub record Listens (old new : Caller) : Type 0 where
   pub of_is : new.of ≡ old.of
   pub shares_are : new.shares ≡ old.shares
   pub told_are : told_in new.calls ≡ told_in old.calls
@@ -121,7 +121,7 @@ turn_listens (Told told) old new is = call_listens (Heard (Part is.0)) old.notic
 turn_listens NoMemory old new is = call_listens (Heard (Part is.0)) old.notices new.notices refl is.1
 
 turns_listen : (outcomes : List Outcome) (old new : Tightener) → WorkTurns outcomes old new → Listens old.notices new.notices
-turns_listen [] old new is = record { of_is = ap (λ x. x.notices.of) is; shares_are = ap (λ x. x.notices.shares) is; told_are = ap (λ x. told_in x.notices.calls) is }
+turns_listen [] old new is = record { of_is = ap (λ (x : Tightener). x.notices.of) is; shares_are = ap (λ (x : Tightener). x.notices.shares) is; told_are = ap (λ (x : Tightener). told_in x.notices.calls) is }
 turns_listen (first ∷ more) old new is = then_listens old.notices is.0.notices new.notices (turn_listens first old is.0 is.1) (turns_listen more is.0 new is.2)
 
 pub work_listens : (turns : ℕ) (done : WorkDone) (old new : Tightener) → Works turns done old new → Listens old.notices new.notices

@@ -6,10 +6,10 @@ mod count;
 pub mod laws;
 mod outcome;
 mod part;
-mod work;
+mod turns;
 
 pub use count::{WorkCount, WorkDone};
 pub use sc_desk::{DeskPass, PartName};
 pub use sc_notice::NoticePass;
 pub use sc_outside::{Gate, OpenGate, RestGate};
-pub use work::work;
+pub use turns::work;
