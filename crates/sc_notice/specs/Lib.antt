@@ -1,0 +1,4 @@
+pub mod Balance
+pub mod Written
+pub mod Callers
+pub mod Cards
