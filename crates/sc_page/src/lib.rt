@@ -15,6 +15,7 @@ mod links;
 mod order;
 mod page;
 mod search;
+mod starts;
 #[cfg(test)]
 mod tests;
 mod text;
