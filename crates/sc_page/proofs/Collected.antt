@@ -1,5 +1,5 @@
 -- What is kept of the items that a search asks for, with one item more, sorted in, and cut to a page.
-use Rattle.std.proofs.Common.{◌≡◌, ◌≤◌, ℕ, suc, zero, ◌+◌, Bool, true, false, cond, nat_lt, min, add-one, List, [], ◌∷◌, ◌++◌, take, filter, length, map, append-nil, append_assoc, refl, sym, ap, ◌∙◌, subst, arith, Ordering, IsPermutation, IsSorted, Option, None}
+use Rattle.std.proofs.Common.{◌≡◌, ℕ, suc, ◌+◌, Bool, true, false, cond, nat_lt, min, add-one, List, [], ◌∷◌, ◌++◌, take, filter, length, append-nil, refl, sym, ap, ◌∙◌, subst, arith, Ordering, IsPermutation, IsSorted, Option, None}
 use Rattle.std.specs.Arc.{arc_value}
 use Rattle.std.specs.declared.alloc.Global.{Global}
 use Rattle.std.specs.declared.sync.Arc.{Arc}
@@ -17,7 +17,7 @@ use Rattle.sc_page.specs.Kept.{AreKept, HasFound, IsSettled}
 use Rattle.sc_page.specs.Leading.{last_of_full, may_stand}
 use Rattle.sc_page.specs.Order.{IsListing}
 use Rattle.sc_page.specs.Page.{every_item, IsFlatPage}
-use Rattle.sc_page.specs.Search.{is_asked, last_key, next_of, shared, IsPage}
+use Rattle.sc_page.specs.Search.{is_asked, last_key, shared, IsPage}
 use Rattle.sc_page.proofs.Growing.{apart-filter, settled}
 use Rattle.sc_page.proofs.ItemOrders.{item_order_is}
 use Rattle.sc_page.proofs.Keeping.{kept_with, kept_without}

@@ -2,7 +2,6 @@
 use Rattle.std.proofs.Common.{List}
 use Rattle.std.proofs.lemmas.Cmp.{on_total}
 use Rattle.sc_sort.specs.declared.key.Key.{Key}
-use Rattle.sc_sort.specs.Order.{keys_order}
 use Rattle.sc_sort.proofs.Orders.{keys_total}
 use Rattle.sc_sort.proofs.Ties.{tie_parts}
 use Rattle.sc_page.specs.ItemKey.{key_of, item_order}

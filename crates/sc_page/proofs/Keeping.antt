@@ -1,13 +1,11 @@
 -- One item more, and what waits sorted in.
-use Rattle.std.proofs.Common.{◌≡◌, ℕ, suc, zero, Bool, true, false, cond, List, [], ◌∷◌, ◌++◌, take, filter, append-nil, append_assoc, refl, sym, ap, subst, ◌∙◌, arith, Ordering}
+use Rattle.std.proofs.Common.{◌≡◌, ℕ, true, false, cond, List, [], ◌∷◌, ◌++◌, filter, append-nil, append_assoc, sym, ap, subst, ◌∙◌, Ordering}
 use Rattle.std.proofs.lemmas.List.Elements.{filter-append}
-use Rattle.std.proofs.lemmas.List.Sorted.{IsPermutation-refl}
 use Rattle.sc_item.specs.Feature.{Feature}
 use Rattle.sc_page.specs.declared.page.PageSoFar.{PageSoFar}
 use Rattle.sc_page.specs.Kept.{AreKept, HasSeen}
 use Rattle.sc_page.specs.Leading.{last_of_full, may_stand}
 use Rattle.sc_page.specs.Order.{default_order}
-use Rattle.sc_page.specs.Page.{every_item, IsFlatPage}
 
 module _ (order : Feature → Feature → Ordering) (limit : ℕ) where
   module _ (page waiting items : List Feature) (x : Feature) (k : AreKept order limit page waiting items) where

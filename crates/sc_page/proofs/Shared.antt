@@ -1,5 +1,5 @@
 -- Shared items that are sorted, and one more of them.
-use Rattle.std.proofs.Common.{◌≡◌, ◌<◌, ◌≤◌, ◌+◌, ℕ, List, [], ◌∷◌, ◌++◌, take, drop, length, map, get_or, sym, ap, ◌∙◌, subst, arith, Ordering, IsSorted, append_assoc, length-append}
+use Rattle.std.proofs.Common.{◌≡◌, ◌<◌, ◌+◌, ℕ, List, [], ◌∷◌, ◌++◌, take, drop, length, map, get_or, sym, ap, ◌∙◌, subst, arith, Ordering, IsSorted, append_assoc, length-append}
 use Rattle.std.specs.Arc.{arc_value}
 use Rattle.std.specs.declared.alloc.Global.{Global}
 use Rattle.std.specs.declared.sync.Arc.{Arc}

@@ -1,5 +1,5 @@
 -- What an item is ordered by under a sort (STAC API, Sort extension), and the order of items under it.
-use Rattle.std.specs.Prelude.{ℕ, suc, zero, List, [], ◌∷◌, map, take, if◌then◌else◌}
+use Rattle.std.specs.Prelude.{ℕ, suc, zero, List, [], map, take, if◌then◌else◌}
 use Rattle.std.specs.declared.cmp.Ordering.{Ordering}
 use Rattle.std.specs.Str.{is_utf8}
 use Rattle.sc_item.specs.Feature.{Feature}

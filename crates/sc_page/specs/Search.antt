@@ -1,5 +1,5 @@
 -- The page of a search (STAC API, Item Search): what it selects behind its place, in its order, as far as its limit, and where the next page begins.
-use Rattle.std.specs.Prelude.{◌≡◌, ℕ, ◌-◌, Bool, true, ◌&&◌, nat_lt, if◌then◌else◌, List, length, map, filter, Option, Some, None, option_map}
+use Rattle.std.specs.Prelude.{◌≡◌, ◌-◌, Bool, true, ◌&&◌, nat_lt, if◌then◌else◌, List, length, map, filter, Option, Some, None, option_map}
 use Rattle.std.specs.Arc.{arc_value}
 use Rattle.std.specs.declared.alloc.Global.{Global}
 use Rattle.std.specs.declared.sync.Arc.{Arc}

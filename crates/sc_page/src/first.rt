@@ -1,16 +1,17 @@
-ghost use Rattle.std.specs.Prelude.{◌≡◌, ◌++◌, ◌∷◌, [], nat_lt, if◌then◌else◌, List, length, take, None, IfOk, OnOk, option_map};
+ghost use Rattle.std.specs.Prelude.{◌≡◌, ◌++◌, ◌∷◌, [], ◌&&◌, nat_lt, if◌then◌else◌, true, List, length, take, reverse, None, IfOk, OnOk, option_map};
 ghost use Rattle.std.specs.Arc.{arc_value};
 ghost use Rattle.sc_item.specs.Feature.{Feature};
 ghost use Rattle.sc_item.specs.Names.{AreApart};
 ghost use Rattle.sc_page.specs.ItemKey.{item_order};
 ghost use Rattle.sc_page.specs.Search.{IsPage, last_key, shared};
-ghost use Rattle.sc_page.specs.Leading.{last_of_full, may_stand};
+ghost use Rattle.sc_page.specs.Leading.{AreLatestFirst, is_earliest_first, last_of_full, may_stand, starts_after, starts_before};
 ghost use Rattle.sc_page.specs.Kept.{HasFound, IsSettled};
 
 use crate::compare::compare_items;
 use crate::found::Page;
 use crate::key::key_of_item;
 use crate::search::Search;
+use crate::starts::{is_earliest_first, is_latest_first, starts_after, starts_before};
 use sc_base::Seq;
 use sc_item::Item;
 use sc_sort::{KeyList, SortSpec};
@@ -18,7 +19,7 @@ use std::alloc::{AllocError, Global};
 use std::sync::Arc;
 
 /// The least number of items that wait before they are sorted in.
-const LEAST_STEP: usize = 1024;
+const LEAST_STEP: usize = 64;
 
 /// The first of the items so far that a search asks for, one more than its limit. An item that can't be among them costs
 /// one comparison, and nothing of it is kept.
@@ -112,6 +113,9 @@ impl FirstItems {
     pub fn settle(&mut self, search: &Search) -> Result<(), AllocError>
         ensures { OnOk result ((items : List Feature) → AreApart items → HasFound search.now self.old items → IsSettled search.now self.new items) }
     {
+        if self.waiting.is_empty() {
+            return Ok(());
+        }
         self.first.append(&mut self.waiting)?;
         let sort = search.sort();
         self.first.sort_by(|a, b| compare_items(sort, a, b))?;
@@ -167,6 +171,97 @@ impl FirstItems {
             self.add(alloc, search, item)?;
         }
         Ok(())
+    }
+
+    /// Whether an item, and with it each that starts before it, comes after the last of the first items, where the latest
+    /// come first.
+    fn is_too_early(&self, latest_first: bool, item: &Item) -> bool
+        ensures { result ≡ (latest_first && starts_before (last_of_full self.now.most (shared self.now.first.items)) item.now) }
+    {
+        latest_first && starts_before(self.last(), item)
+    }
+
+    /// Whether an item, and with it each that starts after it, comes after the last of the first items, where the earliest
+    /// come first.
+    fn is_too_late(&self, item: &Item) -> bool
+        ensures { result ≡ starts_after (last_of_full self.now.most (shared self.now.first.items)) item.now }
+    {
+        starts_after(self.last(), item)
+    }
+
+    /// Takes items from the start on, as far as they may be among the first.
+    fn add_from_start(
+        &mut self,
+        alloc: Global,
+        search: &Search,
+        items: &[Arc<Item>],
+    ) -> Result<(), AllocError>
+        requires { AreLatestFirst (shared items.now) }
+        ensures { OnOk result ((before : List Feature) → AreApart (before ++ shared items.now) → HasFound search.now self.old before → HasFound search.now self.new (before ++ shared items.now)) }
+    {
+        let latest_first = is_latest_first(search.sort());
+        for item in items {
+            if self.is_too_early(latest_first, item) {
+                return Ok(());
+            }
+            self.add(alloc, search, item)?;
+        }
+        Ok(())
+    }
+
+    /// Takes items from the end on, as far as they may be among the first.
+    fn add_backwards(
+        &mut self,
+        alloc: Global,
+        search: &Search,
+        items: &[Arc<Item>],
+    ) -> Result<(), AllocError>
+        requires latest { AreLatestFirst (shared items.now) }
+        requires sort { is_earliest_first search.now.sort ≡ true }
+        ensures { OnOk result ((before : List Feature) → AreApart (before ++ reverse (shared items.now)) → HasFound search.now self.old before → HasFound search.now self.new (before ++ reverse (shared items.now))) }
+    {
+        let mut rest = items;
+        'reading: while let Some((item, others)) = rest.split_last() {
+            if self.is_too_late(item) {
+                return Ok(());
+            }
+            self.add(alloc, search, item)?;
+            rest = others;
+        }
+        Ok(())
+    }
+
+    /// The same, after which none waits.
+    fn add_from_end(
+        &mut self,
+        alloc: Global,
+        search: &Search,
+        items: &[Arc<Item>],
+    ) -> Result<(), AllocError>
+        requires latest { AreLatestFirst (shared items.now) }
+        requires sort { is_earliest_first search.now.sort ≡ true }
+        ensures { OnOk result ((before : List Feature) → AreApart (before ++ shared items.now) → HasFound search.now self.old before → HasFound search.now self.new (before ++ shared items.now)) }
+    {
+        self.add_backwards(alloc, search, items)?;
+        self.settle(search)?;
+        Ok(())
+    }
+
+    /// Takes more items, which stand by their starts, the latest first, and no two of which and of those before have one
+    /// name. Under a sort that begins with the time, those aren't looked at that start behind the last of the first items.
+    pub fn add_latest_first(
+        &mut self,
+        alloc: Global,
+        search: &Search,
+        items: &[Arc<Item>],
+    ) -> Result<(), AllocError>
+        requires { AreLatestFirst (shared items.now) }
+        ensures { OnOk result ((before : List Feature) → AreApart (before ++ shared items.now) → HasFound search.now self.old before → HasFound search.now self.new (before ++ shared items.now)) }
+    {
+        if is_earliest_first(search.sort()) {
+            return self.add_from_end(alloc, search, items);
+        }
+        self.add_from_start(alloc, search, items)
     }
 
     /// The page of the items.

@@ -15,6 +15,7 @@ mod links;
 mod order;
 mod page;
 mod search;
+mod starts;
 mod text;
 
 pub use compare::{compare_items, compare_with_key};

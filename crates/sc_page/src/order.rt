@@ -29,7 +29,7 @@ pub(crate) fn rank_of(item: &Item) -> Rank<'_>
 }
 
 /// Which of two instants is earlier.
-fn compare_instants(a: Instant, b: Instant) -> Ordering
+pub(crate) fn compare_instants(a: Instant, b: Instant) -> Ordering
     ensures { result ≡ int_cmp a b }
 {
     a.nanoseconds().cmp(&b.nanoseconds())

@@ -1,11 +1,11 @@
-ghost use Rattle.std.specs.Prelude.{◌≡◌, IfOk};
+ghost use Rattle.std.specs.Prelude.{◌≡◌, Some, length, IfOk};
 ghost use Rattle.std.specs.Option.{option_copied};
 ghost use Rattle.sc_expr.specs.Query.{IsQuery};
 ghost use Rattle.sc_page.specs.Search.{is_asked, is_behind};
 
 use crate::compare::compare_with_key;
 use sc_eval::Prepared;
-use sc_expr::Query;
+use sc_expr::{Query, Select};
 use sc_item::Item;
 use sc_sort::{KeyList, SortSpec};
 use std::alloc::{AllocError, Global};
@@ -15,6 +15,7 @@ use std::marker::Model;
 #[derive(Drop)]
 pub struct Search<'a> {
     query: &'a Query,
+    after: Option<&'a KeyList>,
     select: Prepared<'a>,
 }
 
@@ -26,9 +27,12 @@ impl<'a> Model for Search<'a> {
 
     ghost coded = { asked_code };
 
-    ghost view = { λ s. s.query.now };
+    ghost use Rattle.std.specs.Option.{option_copied};
+    ghost use Rattle.sc_expr.specs.Query.{IsQuery};
 
-    ghost invariant = { λ s. s.select ≡ s.query.now.select };
+    ghost view = { λ s. record { select = s.query.now.select; sort = s.query.now.sort; limit = s.query.now.limit; after = option_copied s.after } };
+
+    ghost invariant = { λ s. (s.select ≡ s.query.now.select) × IsQuery (record { select = s.query.now.select; sort = s.query.now.sort; limit = s.query.now.limit; after = option_copied s.after }) };
 }
 
 /// Whether an item comes strictly after a place, where there is one.
@@ -46,8 +50,46 @@ impl<'a> Search<'a> {
     pub fn of(alloc: Global, query: &'a Query) -> Result<Search<'a>, AllocError>
         ensures { IfOk result (λ search. search ≡ query.now) }
     {
+        // Every query keeps what queries keep.
+        let _limit = query.limit();
         let select = Prepared::of(alloc, query.select())?;
-        Ok(Search { query, select })
+        Ok(Search {
+            query,
+            after: query.after(),
+            select,
+        })
+    }
+
+    /// The same of the query behind another place, which has a value for each key of the query's sort.
+    pub fn behind(
+        alloc: Global,
+        query: &'a Query,
+        place: &'a KeyList,
+    ) -> Result<Search<'a>, AllocError>
+        requires { length place.now.values ≡ length query.now.sort }
+        ensures { IfOk result (λ search. search ≡ record { select = query.now.select; sort = query.now.sort; limit = query.now.limit; after = Some place.now }) }
+    {
+        let _limit = query.limit();
+        let select = Prepared::of(alloc, query.select())?;
+        Ok(Search {
+            query,
+            after: Some(place),
+            select,
+        })
+    }
+
+    /// What is selected.
+    pub fn select(&self) -> &Select
+        ensures { result.now ≡ self.now.select }
+    {
+        self.query.select()
+    }
+
+    /// The place behind which the items are asked for, where there is one.
+    pub fn after(&self) -> Option<&KeyList>
+        ensures { option_copied result ≡ self.now.after }
+    {
+        self.after
     }
 
     /// The order that is asked for.
@@ -70,7 +112,7 @@ impl<'a> Search<'a> {
         ensures { IfOk result (λ asked. asked ≡ is_asked self.now item.now) }
     {
         // A comparison costs less than a filter.
-        if !is_behind(self.query.sort(), self.query.after(), item) {
+        if !is_behind(self.query.sort(), self.after, item) {
             return Ok(false);
         }
         self.select.selects(alloc, item)

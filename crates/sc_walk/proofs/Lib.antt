@@ -1,2 +1,7 @@
 pub mod Taking
-pub mod Leaving
+pub mod Times
+pub mod Sorting
+pub mod Fronts
+pub mod Stopping
+pub mod Going
+pub mod Candidates

@@ -1,6 +1,9 @@
 //! Searches over the parts of a snapshot.
 #![tactic(auto)]
 
+mod candidate;
+mod front;
+mod ordering;
 mod walking;
 
 pub use sc_page::{Page, Query};

@@ -1,8 +1,12 @@
-use Rattle.std.proofs.Common.{[], take}
-use Rattle.sc_item.specs.Names.{AreApart}
+use Rattle.std.proofs.Common.{◌≡◌, ◌+◌, true, take}
+use Rattle.std.specs.List.{AllByRecursion}
 use Rattle.sc_shelf.specs.Kept.{all_items}
 use Rattle.sc_page.specs.Kept.{HasFound}
+use Rattle.sc_walk.specs.Walk.{cost, is_within}
 use Rattle.sc_walk.proofs.walking.take_parts.Given as goal
 
-abbrev pub invariant-loop-part : goal.invariant-loop-part
-invariant-loop-part g l = AreApart (all_items l.parts) → HasFound l.search l.fn.first [] → HasFound l.search l.first (all_items (take l.part-index l.parts))
+abbrev pub invariant-loop-candidate : goal.invariant-loop-candidate
+invariant-loop-candidate g l =
+    HasFound l.search l.first (all_items (take l.candidate-index l.candidates))
+    × (l.steps ≡ l.fn.steps + cost (take l.candidate-index l.candidates))
+    × AllByRecursion (λ p. is_within l.search l.candidates p ≡ true) (take l.candidate-index l.candidates)

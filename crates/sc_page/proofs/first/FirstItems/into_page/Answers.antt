@@ -1,5 +1,4 @@
-use Rattle.std.proofs.Common.{◌≡◌, ℕ, List, length, nat_lt, cond, None, ◌∙◌, ap, take}
-use Rattle.sc_item.specs.Feature.{Feature}
+use Rattle.std.proofs.Common.{ℕ, List, length, nat_lt, cond, None, ◌∙◌, ap, take}
 use Rattle.sc_sort.specs.declared.key.Key.{Key}
 use Rattle.sc_page.specs.Search.{last_key, shared}
 use Rattle.sc_page.proofs.Collected.{page_of}

@@ -1,4 +1,4 @@
-use Rattle.std.proofs.Common.{◌≡◌, true, refl, sym, ◌∙◌, subst, ap, ◌++◌, ◌∷◌, []}
+use Rattle.std.proofs.Common.{◌≡◌, true, refl, sym, ◌∙◌, ap, ◌++◌, ◌∷◌, []}
 use Rattle.sc_page.specs.Leading.{last_of_full, may_stand}
 use Rattle.sc_page.specs.Order.{default_order}
 use Rattle.sc_page.proofs.Keeping.{seen_with}

@@ -1,4 +1,4 @@
-use Rattle.std.proofs.Common.{◌≡◌, [], sym, rules, refl, subst, ap, ◌∙◌, take}
+use Rattle.std.proofs.Common.{rules, refl, subst}
 use Rattle.std.proofs.lemmas.List.Sorted.{ranks_by, answers_always}
 use Rattle.std.specs.List.Sorted.{IsPermutation}
 use Rattle.sc_page.proofs.Growing.{settled_so_far}
