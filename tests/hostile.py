@@ -1,6 +1,6 @@
 #!/usr/bin/env python3
 """hostile.py PROGRAM: runs `stacd pipe` and `stacd page` over cut, long, deep and malformed input, and over files that can't be
-read or written.
+read or written, and `stacd serve` over a port that is taken.
 
 What is wanted is stated here by hand, out of the tables of limits and refusals: the status of the program, the line that it
 tells, and the replies' statuses with what they say of a refusal. It prints what differs, and ends with status 0 only where
@@ -8,6 +8,7 @@ nothing does."""
 import json
 import os
 import re
+import socket
 import subprocess
 import sys
 import urllib.parse
@@ -147,6 +148,9 @@ def faults():
     if os.path.exists("/dev/full"):
         with open("/dev/full", "wb") as full:
             wants("a full device", (5, "stacd: write fault\n"), told(ends([PROGRAM, "page", "3"], subprocess.DEVNULL, full)))
+    with socket.create_server(("127.0.0.1", 0)) as taken:
+        port = str(taken.getsockname()[1])
+        wants("a port that is taken", (7, "stacd: listen fault\n"), told(ends([PROGRAM, "serve", port, "1", "1", "1"], subprocess.DEVNULL, subprocess.DEVNULL)))
     wants("a bad line", (3, b"", "stacd: bad line 2\n"), run([PROGRAM, "page", "3"], line + b"{}\n"))
     wants("no lines", 0, run([PROGRAM, "page", "3"], b"")[0])
     for words in ([], ["page"], ["page", "0"], ["page", "x"], ["pipe"], ["serve", "8080"], ["serve", "0", "1", "1", "1"], ["page", "-1"]):
