@@ -3,6 +3,7 @@
 
 mod candidate;
 mod front;
+mod ids;
 mod ordering;
 mod walking;
 
