@@ -8,3 +8,4 @@ pub mod Candidates
 pub mod Finding
 pub mod Naming
 pub mod Scanned
+pub mod Narrowing
