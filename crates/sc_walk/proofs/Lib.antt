@@ -5,3 +5,7 @@ pub mod Fronts
 pub mod Stopping
 pub mod Going
 pub mod Candidates
+pub mod Finding
+pub mod Naming
+pub mod Scanned
+pub mod Narrowing

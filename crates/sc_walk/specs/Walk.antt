@@ -15,6 +15,8 @@ use Rattle.sc_sort.specs.Order.{order_by, there}
 use Rattle.sc_sort.specs.Spec.{is_of_time}
 use Rattle.sc_expr.specs.Query.{Asked}
 use Rattle.sc_eval.specs.Property.{property_value}
+use Rattle.sc_bounds.specs.Extent.{AreBounds}
+use Rattle.sc_bounds.specs.Sets.{IsWithin}
 use Rattle.sc_history.specs.Part.{Part}
 use Rattle.sc_shelf.specs.Kept.{all_items}
 use Rattle.sc_need.specs.Need.{need_of}
@@ -124,3 +126,19 @@ is_done sort (Some last) part = is_ahead sort part last
 pub record AreSorted (sort : List Key) (old new : List Part) : Type 0 where
   pub same : IsPermutation old new
   pub sorted : IsSorted (front_order sort) new
+
+-- ---- narrower bounds
+
+-- the same part with bounds that lie within
+pub record IsNarrower (narrow wide : Part) : Type 0 where
+  pub name : narrow.name ≡ wide.name
+  pub items : narrow.items ≡ wide.items
+  pub in_order : AreBounds narrow.bounds
+  pub within : IsWithin narrow.bounds wide.bounds
+
+-- part by part
+abbrev pub AreNarrower : List Part → List Part → Type 0
+AreNarrower [] [] = Unit {0}
+AreNarrower [] (wide ∷ wides) = ⊥
+AreNarrower (narrow ∷ narrows) [] = ⊥
+AreNarrower (narrow ∷ narrows) (wide ∷ wides) = IsNarrower narrow wide × AreNarrower narrows wides

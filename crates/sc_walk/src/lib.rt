@@ -3,9 +3,12 @@
 
 mod candidate;
 mod front;
+mod ids;
+mod laws;
 mod ordering;
 mod walking;
 
+pub use laws::narrower_bounds_open_less;
 pub use sc_page::{Page, Query};
 pub use sc_shelf::Snapshot;
 pub use walking::answer;

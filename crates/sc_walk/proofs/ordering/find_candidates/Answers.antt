@@ -10,7 +10,7 @@ use Rattle.sc_walk.proofs.ordering.find_candidates.Goals.{then-is_candidate+in_o
 
 pub loop-part-preserved : goal.loop-part-preserved
 loop-part-preserved c =
-    let test = is_candidate c.args.query.now in
+    let test = is_candidate c.args.search.now in
     let parts = c.args.parts.now in
     let i = c.loop-part.part-index in
     let part = c.part-item.result in

@@ -7,5 +7,5 @@ use Rattle.sc_walk.proofs.ordering.find_candidates.Given as goal
 
 abbrev pub invariant-loop-part : goal.invariant-loop-part
 invariant-loop-part l =
-    (l.candidates.items ≡ filter (is_candidate l.query) (take l.part-index l.parts))
+    (l.candidates.items ≡ filter (is_candidate l.search) (take l.part-index l.parts))
     × All (λ part. IsKept (version_of part)) (take l.part-index l.parts)

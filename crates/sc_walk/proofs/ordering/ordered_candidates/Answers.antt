@@ -9,7 +9,7 @@ use Rattle.sc_walk.proofs.ordering.ordered_candidates.Goals as goal
 
 pub returns : goal.returns
 returns c =
-    let asked = c.args.query.now in
+    let asked = c.args.search.now in
     let snap = c.args.snapshot.now in
     let parts = snap.parts in
     let stood = c.revision-revision.ensures.stood in
