@@ -1,0 +1,5 @@
+pub mod Decimals
+pub mod Objects
+pub mod Scalars
+pub mod Geometries
+pub mod Expressions
