@@ -1,5 +1,5 @@
-pub mod Decimals
-pub mod Objects
-pub mod Scalars
-pub mod Geometries
-pub mod Expressions
+pub mod Literals
+pub mod Reading
+pub mod SpelledScalars
+pub mod SpelledShapes
+pub mod SpelledExpressions

@@ -41,6 +41,7 @@ pub(crate) fn number_tree(alloc: Global, number: &Dec) -> Result<Json, AllocErro
 }
 
 /// Adds the digits of a rest of so many places, until nothing is left.
+#[tactic(auto, using(sc_cqlwrite::proofs::Places::unit_some, sc_cqlwrite::proofs::Places::some_places, sc_cqlwrite::proofs::Places::digit_small, sc_cqlwrite::proofs::Places::rest_small, sc_cqlwrite::proofs::Places::places_more))]
 fn push_places(out: &mut String, count: u32, rest: u64) -> Result<(), AllocError>
     requires few { count ≤ 7 }
     requires within { rest < 10 ^ count }

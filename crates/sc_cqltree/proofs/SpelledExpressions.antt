@@ -31,9 +31,9 @@ use Rattle.sc_cqltree.specs.Scalars.{scalar_tree, pattern_tree}
 use Rattle.sc_cqltree.specs.Geometries.{shape_tree}
 use Rattle.sc_cqltree.specs.Predicates.{comparison_tree, null_tree, between_tree, among_tree, like_tree, meets_tree}
 use Rattle.sc_cqltree.specs.Written.{level, written}
-use Rattle.sc_cqltree.proofs.Objects.{list_is, calls}
-use Rattle.sc_cqltree.proofs.Scalars.{scalar_spelled, scalars_spelled, pattern_spelled}
-use Rattle.sc_cqltree.proofs.Geometries.{shape_spelled}
+use Rattle.sc_cqltree.proofs.Reading.{list_is, calls}
+use Rattle.sc_cqltree.proofs.SpelledScalars.{scalar_spelled, scalars_spelled, pattern_spelled}
+use Rattle.sc_cqltree.proofs.SpelledShapes.{shape_spelled}
 
 called : (name : List ℕ) (operator : Operator) (args : List Json) (expr : Expr) → operator_named name ≡ Some operator → Applied operator args expr → Spells (call name args) expr
 called name operator args expr e a = applied (call name args) operator args expr (calls name operator args e) a

@@ -39,7 +39,7 @@ use Rattle.sc_cqljson.specs.Drawn.{PlainOf, DrawsBy, Draws}
 use Rattle.sc_cqljson.specs.Spells.{SpellsShape, of_property, drawn as draws}
 use Rattle.sc_cqltree.specs.Objects.{member, only, shaped, numeral}
 use Rattle.sc_cqltree.specs.Geometries.{coordinate_tree, position_tree, line_tree, area_tree, point_part, line_part, area_part, parts_of, collected, geometry_tree, shape_tree}
-use Rattle.sc_cqltree.proofs.Objects.{text_there, number_there, list_there, members_there, named, property_head, coordinates_head, geometries_head, type_named, coordinates_named, geometries_named}
+use Rattle.sc_cqltree.proofs.Reading.{text_there, number_there, list_there, members_there, named, property_head, coordinates_head, geometries_head, type_named, coordinates_named, geometries_named}
 
 -- ---- coordinates
 

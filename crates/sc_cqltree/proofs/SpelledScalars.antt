@@ -27,7 +27,7 @@ use Rattle.sc_cqljson.specs.Spells.{Calls, SpellsScalar, SpellScalars, no_scalar
 use Rattle.sc_cqltree.specs.Objects.{only, call}
 use Rattle.sc_cqltree.specs.Scalars as written
 use Rattle.sc_cqltree.specs.Scalars.{folded, folded_if, moment_tree, scalar_tree, pattern_tree}
-use Rattle.sc_cqltree.proofs.Objects.{text_is, number_is, named, property_head, timestamp_head, calls}
+use Rattle.sc_cqltree.proofs.Reading.{text_is, number_is, named, property_head, timestamp_head, calls}
 
 -- the scalar that a level folds, without regard to case
 folds : (inside : Json) → Calls (folded inside) CaseI (inside ∷ [])
