@@ -153,16 +153,24 @@ named_later other name value ms e = rw (name_test other name value ∙ e) refl
 pub type_named : (kind name : List ℕ) (value : Json) → geoms.member_named type_name (member type_name (trees.Text kind) ∷ member name value ∷ []) ≡ Some (trees.Text kind)
 type_named kind name value = named_first type_name (trees.Text kind) (member name value ∷ [])
 
+coordinates_other : bytes_eq type_name coordinates_name ≡ false
+unfolding type_name coordinates_name
+coordinates_other = refl
+
+geometries_other : bytes_eq type_name geometries_name ≡ false
+unfolding type_name geometries_name
+geometries_other = refl
+
 pub coordinates_named : (kind : List ℕ) (value : Json) → geoms.member_named coordinates_name (member type_name (trees.Text kind) ∷ member coordinates_name value ∷ []) ≡ Some value
-coordinates_named kind value = named_later type_name coordinates_name (trees.Text kind) (member coordinates_name value ∷ []) other ∙ named_first coordinates_name value []
-  where
-    other : bytes_eq type_name coordinates_name ≡ false
-    unfolding type_name coordinates_name
-    other = refl
+coordinates_named kind value = named_later type_name coordinates_name (trees.Text kind) (member coordinates_name value ∷ []) coordinates_other ∙ named_first coordinates_name value []
 
 pub geometries_named : (kind : List ℕ) (value : Json) → geoms.member_named geometries_name (member type_name (trees.Text kind) ∷ member geometries_name value ∷ []) ≡ Some value
-geometries_named kind value = named_later type_name geometries_name (trees.Text kind) (member geometries_name value ∷ []) other ∙ named_first geometries_name value []
-  where
-    other : bytes_eq type_name geometries_name ≡ false
-    unfolding type_name geometries_name
-    other = refl
+geometries_named kind value = named_later type_name geometries_name (trees.Text kind) (member geometries_name value ∷ []) geometries_other ∙ named_first geometries_name value []
+
+-- ---- the code's
+
+pub only_of : (name : List ℕ) (value value' tree : Json) → value ≡ value' → tree ≡ only name value → tree ≡ only name value'
+only_of name value value' tree e is = is ∙ ap (only name) e
+
+pub shaped_of : (kind name : List ℕ) (value value' tree : Json) → value ≡ value' → tree ≡ shaped kind name value → tree ≡ shaped kind name value'
+shaped_of kind name value value' tree e is = is ∙ ap (shaped kind name) e

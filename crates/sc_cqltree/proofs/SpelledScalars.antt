@@ -4,6 +4,9 @@ use Rattle.std.specs.List.{AllByRecursion}
 use Rattle.std.specs.Option.{option_and_then}
 use Rattle.sc_time.specs.Instant.{IsInstant}
 use Rattle.sc_time.specs.Reading.{instant_reading}
+use Rattle.sc_decimal.specs.Number.{Number}
+use Rattle.sc_decimal.specs.Literal.{literal_of}
+use Rattle.sc_json.specs.declared.tree.Num.{Num}
 use Rattle.sc_json.specs.declared.tree.Json.{Json}
 use Rattle.sc_json.specs.declared.tree.Json.TheVariants as trees
 use Rattle.sc_expr.specs.declared.scalar.Scalar.{Scalar}
@@ -38,6 +41,9 @@ moment_in : (at : ℤ) → IsInstant at → instant_in (trees.Text (moment_text 
 unfolding instant_in
 moment_in at is = ap (option_and_then (λ text. moment_by (instant_reading text))) (text_is (moment_text at)) ∙ ap moment_by (moment_read at is)
 
+abbrev num_of : Number → Num
+num_of number = record { literal = literal_of number; dec = number }
+
 abbrev Good : Scalar → Type 0
 Good s = IsFormedScalar s → IsKeptScalar s → SpellsScalar (scalar_tree s) s
 
@@ -69,7 +75,7 @@ level_spelled : (y : Scalar-F Held) → Level (scalar_of y) → SpellsScalar (wr
 level_spelled (inner.Prop name) l =
     along _ (scalars.Prop name) _ (scalars.rolls-Prop name) (spells.prop (only property_name (trees.Text name)) (trees.Text name) name (property_head (trees.Text name)) (named name l.formed))
 level_spelled (inner.Text text) l = along _ (scalars.Text text) _ (scalars.rolls-Text text) (spells.text (trees.Text text) text (text_is text))
-level_spelled (inner.Number number) l = along _ (scalars.Number number) _ (scalars.rolls-Number number) (spells.number _ number (number_is _))
+level_spelled (inner.Number number) l = along _ (scalars.Number number) _ (scalars.rolls-Number number) (spells.number (trees.Number (num_of number)) number (number_is (num_of number)))
 level_spelled (inner.Truth truth) l = along _ (scalars.Truth truth) _ (scalars.rolls-Truth truth) (spells.truth (trees.Truth truth) truth refl)
 level_spelled (inner.Moment moment) l =
     let value = trees.Text (moment_text moment) in

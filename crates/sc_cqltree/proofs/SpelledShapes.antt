@@ -1,11 +1,11 @@
 -- What is written of a geometry depicts it.
 use Rattle.std.proofs.Common.{◌≡◌, ℕ, ◌≤◌, ◌+◌, List, [], ◌∷◌, ◌++◌, length, map, codes, true, ◌&&◌, Option, Some, None, int_le, ◌≤ℤ◌, refl, sym, ap, subst, ◌∙◌, arith, ℤ, pos, negsuc}
-use Rattle.std.specs.List.{AllByRecursion}
+use Rattle.std.specs.List.{All, AllByRecursion}
 use Rattle.std.specs.Option.{option_and_then, option_map}
 use Rattle.std.proofs.lemmas.Bool.{le-leb}
 use Rattle.std.proofs.lemmas.Int.{ints}
 use Rattle.std.proofs.lemmas.List.{length-map}
-use Rattle.std.proofs.lemmas.List.Elements.{recursion_from_All}
+use Rattle.std.proofs.lemmas.List.Elements.{recursion_from_All, All-from_recursion}
 use Rattle.sc_decimal.specs.Number.{Number}
 use Rattle.sc_decimal.specs.Grid.{grid_of}
 use Rattle.sc_decimal.specs.Value.{number_of}
@@ -13,8 +13,6 @@ use Rattle.sc_json.specs.declared.tree.Json.{Json}
 use Rattle.sc_json.specs.declared.tree.Json.TheVariants as trees
 use Rattle.sc_json.specs.declared.tree.Member.{Member}
 use Rattle.sc_geom.specs.declared.point.Pt.{Pt}
-use Rattle.sc_geom.specs.declared.kind.Kind.{Kind}
-use Rattle.sc_geom.specs.declared.kind.Kind.TheVariants.{Point, LineString, Polygon, GeometryCollection}
 use Rattle.sc_geom.specs.Point.{IsLongitude, IsLatitude, IsInWorld}
 use Rattle.sc_geom.specs.Shapes.{Shapes, joined, rings_of, positions_of, map_shapes, nothing, beside}
 use Rattle.sc_geom.specs.Geometry.{IsRing, IsGeometry}
@@ -57,9 +55,12 @@ latitude_is y (l, h) =
     let high : y ≤ℤ pos 3600000000 = omega (arith, ints) in
     let e = (coordinate_read y low high).1 in rw e (between_true (negsuc 899999999) (pos 900000000) y l h)
 
+both_placed : {a b : Option ℤ} {x y : ℤ} → a ≡ Some x → b ≡ Some y → place_from a b ≡ Some (record { x = x; y = y })
+both_placed e f = rw (e, f) refl
+
 place_is : (p : Pt) → IsInWorld p → place_of (number_of (coordinate_text p.x)) (number_of (coordinate_text p.y)) ≡ Some p
 unfolding place_of
-place_is p is = rw (longitude_is p.x is.0, latitude_is p.y is.1) refl
+place_is p is = both_placed (longitude_is p.x is.0) (latitude_is p.y is.1)
 
 -- ---- lists that are read element by element
 
@@ -70,10 +71,13 @@ elements_some x xs = ap (option_and_then filled) (list_there (x ∷ xs))
 each_of : {B : Type 0} (read : Json → Option B) (x : Json) (xs : List Json) → each read (trees.List (x ∷ xs)) ≡ all_read read (x ∷ xs)
 each_of read x xs = ap (option_and_then (all_read read)) (elements_some x xs)
 
+read_both : {B : Type 0} {a : Option B} {r : Option (List B)} {x : B} {xs : List B} → a ≡ Some x → r ≡ Some xs → both_read a r ≡ Some (x ∷ xs)
+read_both e f = rw (e, f) refl
+
 module _ {A B : Type 0} (P : A → Type 0) (f : A → Json) (read : Json → Option B) (g : A → B) (one : (x : A) → P x → read (f x) ≡ Some (g x)) where
   all_again : (xs : List A) → AllByRecursion P xs → all_read read (map f xs) ≡ Some (map g xs)
   all_again [] all = refl
-  all_again (x ∷ xs) all = rw (one x all.0, all_again xs all.1) refl
+  all_again (x ∷ xs) all = read_both (one x all.0) (all_again xs all.1)
 
   each_again : (xs : List A) → 1 ≤ length xs → AllByRecursion P xs → each read (trees.List (map f xs)) ≡ Some (map g xs)
   each_again [] some all = absurd (omega arith)
@@ -84,7 +88,7 @@ module _ {A B : Type 0} (P : A → Type 0) (f : A → Json) (read : Json → Opt
 numbers_again : (m n : List ℕ) → each geoms.number_of (trees.List (numeral m ∷ numeral n ∷ [])) ≡ Some (number_of m ∷ number_of n ∷ [])
 numbers_again m n =
     each_of geoms.number_of (numeral m) (numeral n ∷ [])
-    ∙ rw (number_there (record { literal = m; dec = number_of m }), number_there (record { literal = n; dec = number_of n })) refl
+    ∙ read_both (number_there (record { literal = m; dec = number_of m })) (read_both (number_there (record { literal = n; dec = number_of n })) refl)
 
 position_again : (p : Pt) → IsInWorld p → position_of (position_tree p) ≡ Some (Some p)
 unfolding position_of
@@ -119,16 +123,21 @@ area_again = each_again IsSpread line_tree positions somes ring_again
 
 -- ---- what is depicted
 
-type_is : (kind : List ℕ) (name : List ℕ) (value : Json) (k : Kind) → kind_named kind ≡ Some k → kind_in (member type_name (trees.Text kind) ∷ member name value ∷ []) ≡ Some k
-unfolding kind_in
-type_is kind name value k e =
-    ap (λ (t : Option Json). option_and_then kind_named (option_and_then geoms.text_of t)) (type_named kind name value)
-    ∙ ap (option_and_then kind_named) (text_there kind) ∙ e
+some_found : {K B : Type 0} (o : Option K) (f : K → Option B) (b : B) → option_and_then f o ≡ Some b → (k : K) × (o ≡ Some k) × (f k ≡ Some b)
+some_found None f b e = absurd cc
+some_found (Some k) f b e = (k, refl, e)
 
-depicted : (name : List ℕ) (kind : Kind) (value : Json) (s : Sketch) → kind_named name ≡ Some kind → drawn kind value ≡ Some s → Depicts (shaped name coordinates_name value) s
-depicted name kind value s k d =
-    let members = member type_name (trees.Text name) ∷ member coordinates_name value ∷ [] in
-    by_coordinates (shaped name coordinates_name value) members kind value s (members_there members) (type_is name coordinates_name value kind k) (coordinates_named name value) d
+type_is : (kind name : List ℕ) (value : Json) → kind_in (member type_name (trees.Text kind) ∷ member name value ∷ []) ≡ kind_named kind
+unfolding kind_in
+type_is kind name value =
+    ap (λ (t : Option Json). option_and_then kind_named (option_and_then geoms.text_of t)) (type_named kind name value)
+    ∙ ap (option_and_then kind_named) (text_there kind)
+
+depicted : (name : List ℕ) (value : Json) (s : Sketch) → option_and_then (λ k. drawn k value) (kind_named name) ≡ Some s → Depicts (shaped name coordinates_name value) s
+depicted name value s e =
+    let members : List Member = member type_name (trees.Text name) ∷ member coordinates_name value ∷ [] in
+    let found = some_found (kind_named name) (λ k. drawn k value) s e in
+    by_coordinates (shaped name coordinates_name value) members found.0 value s (members_there members) (type_is name coordinates_name value ∙ found.1) (coordinates_named name value) found.2
 
 -- what is written of a part is read as a geometry, which depicts it
 record IsPart (tree : Json) (s : Sketch) : Type 0 where
@@ -139,7 +148,7 @@ point_depicted : (p : Pt) → IsInWorld p → IsPart (point_part p) (points_only
 unfolding kind_named
 point_depicted p is = record {
   head = coordinates_head (codes "Point") (position_tree p);
-  depicts = depicted (codes "Point") Point (position_tree p) (points_only (Some p ∷ [])) refl (ap (option_map (λ place. points_only (place ∷ []))) (position_again p is));
+  depicts = depicted (codes "Point") (position_tree p) (points_only (Some p ∷ [])) (ap (option_map (λ place. points_only (place ∷ []))) (position_again p is));
 }
 
 record IsPath (line : List Pt) : Type 0 where
@@ -150,7 +159,7 @@ line_depicted : (line : List Pt) → IsPath line → IsPart (line_part line) (li
 unfolding kind_named
 line_depicted line is = record {
   head = coordinates_head (codes "LineString") (line_tree line);
-  depicts = depicted (codes "LineString") LineString (line_tree line) (lines_only (somes line ∷ [])) refl (ap (option_map (λ l. lines_only (l ∷ []))) (line_again line is.long is.all));
+  depicts = depicted (codes "LineString") (line_tree line) (lines_only (somes line ∷ [])) (ap (option_map (λ l. lines_only (l ∷ []))) (line_again line is.long is.all));
 }
 
 record IsRinged (area : List (List Pt)) : Type 0 where
@@ -161,7 +170,7 @@ area_depicted : (area : List (List Pt)) → IsRinged area → IsPart (area_part 
 unfolding kind_named
 area_depicted area is = record {
   head = coordinates_head (codes "Polygon") (area_tree area);
-  depicts = depicted (codes "Polygon") Polygon (area_tree area) (areas_only (map somes area ∷ [])) refl (ap (option_map (λ a. areas_only (a ∷ []))) (area_again area is.some is.all));
+  depicts = depicted (codes "Polygon") (area_tree area) (areas_only (map somes area ∷ [])) (ap (option_map (λ a. areas_only (a ∷ []))) (area_again area is.some is.all));
 }
 
 -- ---- all parts
@@ -198,10 +207,10 @@ points_depicted (p ∷ points) lines areas all paths more =
 collection_depicted : (parts : List Json) (s : Sketch) → AllDepict parts s → IsPart (shaped (codes "GeometryCollection") geometries_name (trees.List parts)) s
 unfolding kind_named
 collection_depicted parts s all =
-    let kind = codes "GeometryCollection" in
-    let members = member type_name (trees.Text kind) ∷ member geometries_name (trees.List parts) ∷ [] in record {
+    let kind : List ℕ = codes "GeometryCollection" in
+    let members : List Member = member type_name (trees.Text kind) ∷ member geometries_name (trees.List parts) ∷ [] in record {
       head = geometries_head kind (trees.List parts);
-      depicts = by_geometries (shaped kind geometries_name (trees.List parts)) members (trees.List parts) parts s (members_there members) (type_is kind geometries_name (trees.List parts) GeometryCollection refl)
+      depicts = by_geometries (shaped kind geometries_name (trees.List parts)) members (trees.List parts) parts s (members_there members) (type_is kind geometries_name (trees.List parts))
           (geometries_named kind (trees.List parts)) (list_there parts) all;
     }
 
@@ -257,3 +266,34 @@ pub shape_spelled : (shape : Shape) → IsFormedShape shape → IsKeptShape shap
 shape_spelled (Prop name) formed kept =
     of_property (only property_name (trees.Text name)) (trees.Text name) name (property_head (trees.Text name)) (named name formed)
 shape_spelled (Geom g) formed kept = draws (geometry_tree g) g (geometry_drawn g kept formed)
+
+-- ---- the code's
+
+all_of_all : {A : Type 0} (P : A → Type 0) (xss : List (List A)) → AllByRecursion (AllByRecursion P) xss → AllByRecursion (All P) xss
+all_of_all P [] all = tt
+all_of_all P (xs ∷ xss) all = (All-from_recursion P xs all.0, all_of_all P xss all.1)
+
+all_of_each : {A : Type 0} (P : A → Type 0) (xsss : List (List (List A))) → AllByRecursion (AllByRecursion (AllByRecursion P)) xsss → AllByRecursion (All (All P)) xsss
+all_of_each P [] all = tt
+all_of_each P (xss ∷ xsss) all = (All-from_recursion (All P) xss (all_of_all P xss all.0), all_of_each P xsss all.1)
+
+pub lines_in_world : (g : Shapes Pt) → IsGeometry g → All (All IsInWorld) g.lines
+lines_in_world g is =
+    let all = recursion_from_All IsInWorld (positions_of g) is.in_world in
+    let front = all_first IsInWorld (g.points ++ joined g.lines) (joined (rings_of g)) all in
+    let lines = all_parts IsInWorld g.lines (all_second IsInWorld g.points (joined g.lines) front) in
+    All-from_recursion (All IsInWorld) g.lines (all_of_all IsInWorld g.lines lines)
+
+pub areas_in_world : (g : Shapes Pt) → IsGeometry g → All (All (All IsInWorld)) g.areas
+areas_in_world g is =
+    let all = recursion_from_All IsInWorld (positions_of g) is.in_world in
+    let rings = all_parts IsInWorld (rings_of g) (all_second IsInWorld (g.points ++ joined g.lines) (joined (rings_of g)) all) in
+    All-from_recursion (All (All IsInWorld)) g.areas (all_of_each IsInWorld g.areas (all_parts AreInWorld g.areas rings))
+
+not_alone : (parts : List Json) → (length parts ≡ 1 → ⊥) → collected parts ≡ shaped (codes "GeometryCollection") geometries_name (trees.List parts)
+not_alone [] is = refl
+not_alone (p ∷ []) is = absurd (is refl)
+not_alone (p ∷ q ∷ ps) is = refl
+
+pub other_geometry : (g : Shapes Pt) (parts : List Json) (tree : Json) → parts ≡ parts_of g → (length parts ≡ 1 → ⊥) → tree ≡ shaped (codes "GeometryCollection") geometries_name (trees.List parts) → tree ≡ geometry_tree g
+other_geometry g parts tree are some is = is ∙ sym (not_alone parts some) ∙ ap collected are

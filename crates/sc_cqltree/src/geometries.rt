@@ -45,7 +45,6 @@ fn area_tree(alloc: Global, area: &[Seq<Pt>]) -> Result<Json, AllocError>
     Ok(Json::List(Seq::of(rings)))
 }
 
-#[tactic(auto, unfolding(sc_geom::specs::Kinds::coordinates_name))]
 fn point_part(alloc: Global, point: &Pt) -> Result<Json, AllocError>
     requires { IsInWorld point.now }
     ensures { IfOk result (λ tree. tree ≡ point_part point.now) }
@@ -53,7 +52,6 @@ fn point_part(alloc: Global, point: &Pt) -> Result<Json, AllocError>
     shaped(alloc, "Point", "coordinates", position_tree(alloc, point)?)
 }
 
-#[tactic(auto, unfolding(sc_geom::specs::Kinds::coordinates_name))]
 fn line_part(alloc: Global, line: &[Pt]) -> Result<Json, AllocError>
     requires { All IsInWorld line.now }
     ensures { IfOk result (λ tree. tree ≡ line_part line.now) }
@@ -61,7 +59,6 @@ fn line_part(alloc: Global, line: &[Pt]) -> Result<Json, AllocError>
     shaped(alloc, "LineString", "coordinates", line_tree(alloc, line)?)
 }
 
-#[tactic(auto, unfolding(sc_geom::specs::Kinds::coordinates_name))]
 fn area_part(alloc: Global, area: &[Seq<Pt>]) -> Result<Json, AllocError>
     requires { All (All IsInWorld) area.now }
     ensures { IfOk result (λ tree. tree ≡ area_part area.now) }
@@ -113,7 +110,6 @@ fn parts_of(alloc: Global, geometry: &Geom) -> Result<Vec<Json>, AllocError>
     Ok(parts)
 }
 
-#[tactic(auto, unfolding(sc_geom::specs::Kinds::geometries_name))]
 fn geometry_tree(alloc: Global, geometry: &Geom) -> Result<Json, AllocError>
     ensures { IfOk result (λ tree. tree ≡ geometry_tree geometry.now) }
 {

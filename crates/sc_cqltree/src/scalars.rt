@@ -20,7 +20,6 @@ pub(crate) fn property_tree(alloc: Global, name: &Text) -> Result<Json, AllocErr
     only(alloc, "property", text(alloc, name.as_str())?)
 }
 
-#[tactic(auto, using(sc_cqlwrite::proofs::Moments::moment_is), unfolding(sc_cqljson::specs::Words::timestamp_name))]
 fn moment_tree(alloc: Global, at: Instant) -> Result<Json, AllocError>
     ensures { IfOk result (λ tree. tree ≡ moment_tree at) }
 {

@@ -23,7 +23,6 @@ fn no_other_filter(tree: &Json, filter: &Filter)
 /// of its text in UTC, and coordinates are decimal texts of degrees. A geometry of one part is a `Point`, `LineString` or
 /// `Polygon`, any other a `GeometryCollection` of its points, lines and areas in this order. `AllocError` is want of memory,
 /// which may come of any filter.
-#[tactic(auto, using(crate::proofs::SpelledExpressions::filter_again))]
 pub fn write_tree(alloc: Global, filter: &Filter) -> Result<Json, AllocError>
     ensures tree { IfOk result (λ tree. tree ≡ written filter.now) }
     ensures read { IfOk result (λ tree. IsCqlTree tree filter.now) }
