@@ -37,11 +37,7 @@ fn read_filters(
 }
 
 /// Writes the trees of the filters.
-fn write_trees(
-    alloc: Global,
-    filters: &[Filter],
-    trees: &mut Vec<Json>,
-) -> Result<(), AllocError> {
+fn write_trees(alloc: Global, filters: &[Filter], trees: &mut Vec<Json>) -> Result<(), AllocError> {
     for filter in filters {
         trees.push(write_tree(alloc, filter)?)?;
     }
@@ -56,8 +52,7 @@ fn main(rt: HostRuntime) -> anyhow::Result<()> {
     if bytes.is_empty() {
         return Ok(());
     }
-    let (mut trees, mut filters, mut written) =
-        (Vec::new(alloc), Vec::new(alloc), Vec::new(alloc));
+    let (mut trees, mut filters, mut written) = (Vec::new(alloc), Vec::new(alloc), Vec::new(alloc));
     let start = Instant::now(&rt)?;
     read_trees(alloc, bytes.as_slice(), &mut trees)?;
     let json = start.elapsed(&rt)?.as_micros();
