@@ -119,6 +119,7 @@ ring_again : (ring : List Pt) → IsSpread ring → positions (line_tree ring) �
 ring_again ring is = positions_again ring is.some is.all
 
 area_again : (area : List (List Pt)) → 1 ≤ length area → AllByRecursion IsSpread area → area_of (area_tree area) ≡ Some (map somes area)
+unfolding area_of
 area_again = each_again IsSpread line_tree positions somes ring_again
 
 -- ---- what is depicted
