@@ -1,15 +1,14 @@
 -- How the objects that are written are read: by which member, and what that is.
-use Rattle.std.proofs.Common.{◌≡◌, ℕ, ◌≤◌, ◌<◌, List, [], ◌∷◌, length, Bool, true, false, Option, Some, None, cond, bytes_eq, codes, refl, sym, ap, ◌∙◌, arith}
-use Rattle.std.specs.Option.{option_and_then, option_map, option_map_or}
+use Rattle.std.proofs.Common.{◌≡◌, ℕ, ◌≤◌, List, [], ◌∷◌, length, false, Option, Some, None, cond, bytes_eq, refl, ap, ◌∙◌, arith}
+use Rattle.std.specs.Option.{option_and_then, option_map_or}
 use Rattle.std.specs.Cmp.Lexicographic.{bytes_decides}
 use Rattle.sc_json.specs.declared.tree.Json.{Json}
 use Rattle.sc_json.specs.declared.tree.Json.TheVariants as trees
-use Rattle.sc_json.specs.declared.tree.Json.TheOpen as layer
 use Rattle.sc_json.specs.declared.tree.Json.TheOpen.{Json-F, Member-F}
-use Rattle.sc_json.specs.declared.tree.Json.TheViews.{out-Json, out-roll-Member}
+use Rattle.sc_json.specs.declared.tree.Json.TheViews.{out-roll-Member}
 use Rattle.sc_json.specs.declared.tree.Num.{Num}
 use Rattle.sc_json.specs.declared.tree.Member.{Member, out-Member}
-use Rattle.sc_json.specs.Member.{members_of, value_in, member_value}
+use Rattle.sc_json.specs.Member.{members_of, value_in}
 use Rattle.sc_json.specs.Views as views
 use Rattle.sc_json.specs.Views.{text_in, number_in, list_in}
 use Rattle.sc_geom.specs.Tree as geoms

@@ -23,11 +23,11 @@ use Rattle.sc_cqlwrite.specs.Moment.{moment_text}
 use Rattle.sc_cqlback.proofs.Instants.{moment_read}
 use Rattle.sc_cqljson.specs.declared.operator.Operator.TheVariants.{CaseI}
 use Rattle.sc_cqljson.specs.Operators.{operator_named}
-use Rattle.sc_cqljson.specs.Words.{property_name, timestamp_name}
+use Rattle.sc_cqljson.specs.Words.{property_name}
 use Rattle.sc_cqljson.specs.Drawn.{moment_by, instant_in}
 use Rattle.sc_cqljson.specs.Spells as spells
 use Rattle.sc_cqljson.specs.Spells.{Calls, SpellsScalar, SpellScalars, no_scalars, one_scalar, SpellsPattern, plain, unfolded}
-use Rattle.sc_cqltree.specs.Objects.{only, call}
+use Rattle.sc_cqltree.specs.Objects.{only}
 use Rattle.sc_cqltree.specs.Scalars as written
 use Rattle.sc_cqltree.specs.Scalars.{folded, folded_if, moment_tree, scalar_tree, pattern_tree}
 use Rattle.sc_cqltree.proofs.Reading.{text_is, number_is, named, property_head, timestamp_head, calls}

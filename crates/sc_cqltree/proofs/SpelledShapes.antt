@@ -1,20 +1,18 @@
 -- What is written of a geometry depicts it.
-use Rattle.std.proofs.Common.{◌≡◌, ℕ, ◌≤◌, ◌+◌, List, [], ◌∷◌, ◌++◌, length, map, codes, true, ◌&&◌, Option, Some, None, int_le, ◌≤ℤ◌, refl, sym, ap, subst, ◌∙◌, arith, ℤ, pos, negsuc}
+use Rattle.std.proofs.Common.{◌≡◌, ℕ, ◌≤◌, List, [], ◌∷◌, ◌++◌, length, map, codes, true, ◌&&◌, Option, Some, None, int_le, ◌≤ℤ◌, refl, sym, ap, subst, ◌∙◌, arith, ℤ, pos, negsuc}
 use Rattle.std.specs.List.{All, AllByRecursion}
 use Rattle.std.specs.Option.{option_and_then, option_map}
 use Rattle.std.proofs.lemmas.Bool.{le-leb}
 use Rattle.std.proofs.lemmas.Int.{ints}
 use Rattle.std.proofs.lemmas.List.{length-map}
 use Rattle.std.proofs.lemmas.List.Elements.{recursion_from_All, All-from_recursion}
-use Rattle.sc_decimal.specs.Number.{Number}
-use Rattle.sc_decimal.specs.Grid.{grid_of}
 use Rattle.sc_decimal.specs.Value.{number_of}
 use Rattle.sc_json.specs.declared.tree.Json.{Json}
 use Rattle.sc_json.specs.declared.tree.Json.TheVariants as trees
 use Rattle.sc_json.specs.declared.tree.Member.{Member}
 use Rattle.sc_geom.specs.declared.point.Pt.{Pt}
 use Rattle.sc_geom.specs.Point.{IsLongitude, IsLatitude, IsInWorld}
-use Rattle.sc_geom.specs.Shapes.{Shapes, joined, rings_of, positions_of, map_shapes, nothing, beside}
+use Rattle.sc_geom.specs.Shapes.{Shapes, joined, rings_of, positions_of, map_shapes, nothing}
 use Rattle.sc_geom.specs.Geometry.{IsRing, IsGeometry}
 use Rattle.sc_geom.specs.Tree as geoms
 use Rattle.sc_geom.specs.Place.{kept_between, step_between, longitude_of, latitude_of, place_from, place_of}
@@ -22,7 +20,6 @@ use Rattle.sc_geom.specs.Sketch.{Sketch}
 use Rattle.sc_geom.specs.Kinds.{kind_named, type_name, coordinates_name, geometries_name}
 use Rattle.sc_geom.specs.Drawn.{both_read, all_read, filled, elements_of, each, place_in, position_of, positions, long_line, line_of, area_of, points_only, lines_only, areas_only, drawn}
 use Rattle.sc_geom.specs.Depicts.{kind_in, Depicts, by_coordinates, by_geometries, AllDepict, none_left, one_more}
-use Rattle.sc_geom.specs.Answers.{GeomOf}
 use Rattle.sc_expr.specs.declared.scalar.Shape.{Shape}
 use Rattle.sc_expr.specs.declared.scalar.Shape.TheVariants.{Prop, Geom}
 use Rattle.sc_expr.specs.Form.{IsFormedShape}
@@ -36,7 +33,7 @@ use Rattle.sc_cqljson.specs.Heads.{Head, head_of}
 use Rattle.sc_cqljson.specs.Drawn.{PlainOf, DrawsBy, Draws}
 use Rattle.sc_cqljson.specs.Spells.{SpellsShape, of_property, drawn as draws}
 use Rattle.sc_cqltree.specs.Objects.{member, only, shaped, numeral}
-use Rattle.sc_cqltree.specs.Geometries.{coordinate_tree, position_tree, line_tree, area_tree, point_part, line_part, area_part, parts_of, collected, geometry_tree, shape_tree}
+use Rattle.sc_cqltree.specs.Geometries.{position_tree, line_tree, area_tree, point_part, line_part, area_part, parts_of, collected, geometry_tree, shape_tree}
 use Rattle.sc_cqltree.proofs.Reading.{text_there, number_there, list_there, members_there, named, property_head, coordinates_head, geometries_head, type_named, coordinates_named, geometries_named}
 
 -- ---- coordinates

@@ -1,5 +1,5 @@
 -- The tree of a scalar and of a pattern (OGC 21-065r2, Annex B: scalarExpression, characterExpression).
-use Rattle.std.specs.Prelude.{ℤ, List, [], ◌∷◌, Bool, true, false, codes}
+use Rattle.std.specs.Prelude.{ℤ, [], ◌∷◌, Bool, true, false, codes}
 use Rattle.sc_decimal.specs.Literal.{literal_of}
 use Rattle.sc_json.specs.declared.tree.Json.{Json}
 use Rattle.sc_json.specs.declared.tree.Json.TheVariants as trees
