@@ -1,8 +1,7 @@
 #!/usr/bin/env python3
 """parts.py PROBE FILE..: asks the probe each input of the files, and compares its answers.
 
-A file NAME.txt has lines HEX<TAB>ANSWER; the kind that the probe is asked is NAME up to its first point. Where the probe
-answers `ok -<TAB>REST`, it has no tree to show, and only what stands behind the tab is compared. It prints
+A file NAME.txt has lines HEX<TAB>ANSWER; the kind that the probe is asked is NAME up to its first point. It prints
 'N passed, M failed' and the first differences, and ends with status 0 only where all pass."""
 import pathlib
 import subprocess
@@ -10,13 +9,6 @@ import sys
 
 SECONDS = 120
 SHOWN = 5
-
-
-def agrees(wanted, came):
-    """Whether an answer is the one that is wanted, as far as it says something."""
-    if came.startswith("ok -\t") and wanted.startswith("ok "):
-        return came.split("\t")[1:] == wanted.split("\t")[1:]
-    return came == wanted
 
 
 def failures(probe, file):
@@ -27,7 +19,7 @@ def failures(probe, file):
     done = subprocess.run([probe], input=asked.encode(), capture_output=True, timeout=SECONDS)
     answers = done.stdout.decode("utf-8", "backslashreplace").split("\n")[:-1]
     answers += ["no answer (status %d)" % done.returncode] * (len(cases) - len(answers))
-    return cases, [(given, wanted, came) for (given, wanted), came in zip(cases, answers) if not agrees(wanted, came)]
+    return cases, [(given, wanted, came) for (given, wanted), came in zip(cases, answers) if wanted != came]
 
 
 def main():

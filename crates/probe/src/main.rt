@@ -6,7 +6,6 @@
 
 mod collections;
 mod cuts;
-mod filters;
 mod geometries;
 mod item;
 mod json;
@@ -22,7 +21,6 @@ use std::io::BufRead;
 fn answer(alloc: Global, kind: &[u8], input: &[u8]) -> Result<Option<String>, AllocError> {
     match kind {
         b"collection" => collections::collection(alloc, input),
-        b"cql-text" => Ok(Some(filters::cql_text(alloc, input)?)),
         b"cut-key" => cuts::cut_key(alloc, input),
         b"dec" => Ok(Some(numbers::dec(alloc, input)?)),
         b"dec-order" => numbers::dec_order(alloc, input),

@@ -1,5 +1,5 @@
 //! How answers show what a search asks of places: in steps of the grid.
-use crate::trees::push_comma;
+use crate::lists::push_comma;
 use sc_expr::{Geom, Rects};
 use sc_geom::{GridBox, Pt, Seq};
 use std::alloc::{AllocError, Global};

@@ -8,10 +8,9 @@ mod faults;
 mod filters;
 mod geometries;
 mod keys;
+mod lists;
 mod meanings;
 mod queries;
-mod shapes;
-mod trees;
 
 use std::alloc::{AllocError, Global};
 use std::io;
@@ -20,6 +19,7 @@ use std::io::BufRead;
 /// The answer to an input of a kind; none where it has none.
 fn answer(alloc: Global, kind: &[u8], input: &[u8]) -> Result<Option<String>, AllocError> {
     match kind {
+        b"cql-text" => Ok(Some(filters::cql_text(alloc, input)?)),
         b"cql-tree" => Ok(Some(filters::cql_tree(alloc, input)?)),
         b"eval" => meanings::truth(alloc, input),
         b"key" => keys::key(alloc, input),

@@ -1,7 +1,8 @@
 use crate::faults::query_fault;
+use crate::filters::push_filter;
 use crate::geometries::{push_geometry, push_rects};
 use crate::keys::push_keys;
-use crate::trees::{push_comma, push_filter};
+use crate::lists::push_comma;
 use form_urlencoded::parse;
 use sc_expr::{Instant, Pair, Query, Range, Select, Seq, Text};
 use sc_json::{push_quoted, read_json};

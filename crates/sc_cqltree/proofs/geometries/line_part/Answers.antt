@@ -1,0 +1,13 @@
+use Rattle.std.proofs.Common.{codes}
+use Rattle.std.proofs.lemmas.Result.{IfOk-weaker}
+use Rattle.sc_geom.specs.Kinds.{coordinates_name}
+use Rattle.sc_cqltree.specs.Geometries.{line_tree}
+use Rattle.sc_cqltree.proofs.Reading.{shaped_of}
+use Rattle.sc_cqltree.proofs.geometries.line_part.Goals as goal
+
+pub returns : goal.returns
+unfolding coordinates_name
+returns c =
+    IfOk-weaker c.shaped.result _ _
+    (λ tree is. shaped_of (codes "LineString") coordinates_name c.in_ok-line_tree.field-0 (line_tree c.args.line.now) tree c.in_ok-line_tree.ensures is)
+    c.shaped.ensures

@@ -1,0 +1,5 @@
+pub mod Objects
+pub mod Scalars
+pub mod Geometries
+pub mod Predicates
+pub mod Written
