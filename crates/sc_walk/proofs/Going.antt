@@ -13,6 +13,7 @@ use Rattle.sqlite_keyed.proofs.ListLemmas.{all_weaker, ascending_weaker, all-app
 use Rattle.sqlite_keyed.proofs.SortLemmas.{IsPermutation-sort_by}
 use Rattle.sc_item.specs.Feature.{Feature}
 use Rattle.sc_item.specs.Names.{AreApart}
+use Rattle.sc_sort.specs.declared.key.Key.{Key}
 use Rattle.sc_expr.specs.Query.{Asked}
 use Rattle.sc_history.specs.Part.{Part}
 use Rattle.sc_shelf.specs.Kept.{all_items}
@@ -26,7 +27,7 @@ use Rattle.sc_page.proofs.Growing.{apart-filter, ascending_from_pairs, ends_full
 use Rattle.sc_page.proofs.ItemOrders.{item_order_is}
 use Rattle.sc_page.proofs.Leading.{rises-sort_by, sort_by-rising}
 use Rattle.sc_page.proofs.Listing.{apart_permutation, filter_every, page_from_listing}
-use Rattle.sc_walk.specs.Walk.{AreCandidates, HasNoneAhead, Rises, cost, found, is_ahead, is_done, is_within}
+use Rattle.sc_walk.specs.Walk.{AreCandidates, HasNoneAhead, Rises, begins_with_time, cost, found, is_ahead, is_done, is_within}
 use Rattle.sc_walk.proofs.Fronts.{back}
 use Rattle.sc_walk.proofs.Stopping.{Done, goes_on, stops, none_comes, rest_none}
 use Rattle.sc_walk.proofs.Taking.{items_of_both}
@@ -199,3 +200,42 @@ within_cost opened parts k all =
     ∙ ap (λ l. l ++ filter opened (drop k parts)) (filter_all opened (take k parts) all) in
     let e = ap cost whole ∙ sum_by-append (λ (p : Part). 1 + length p.items) (take k parts) (filter opened (drop k parts)) in
     omega (arith, e)
+
+-- ---- all parts
+
+pub cost_next : (parts : List Part) (i : ℕ) (part : Part) → i < length parts → part ≡ get_or parts i part → cost (take (i + 1) parts) ≡ cost (take i parts) + 1 + length part.items
+cost_next parts i part lt here =
+    let taken : take (i + 1) parts ≡ take i parts ++ part ∷ [] = take_more parts i part lt ∙ ap (λ p. take i parts ++ p ∷ []) (sym here) in
+    let e = ap cost taken ∙ sum_by-append (λ (p : Part). 1 + length p.items) (take i parts) (part ∷ []) in
+    let g = sum_by-cons (λ (p : Part). 1 + length p.items) part [] in
+    omega (arith, e, g)
+
+pub cost_front : (parts : List Part) (k : ℕ) → cost (take k parts) ≤ cost parts
+cost_front parts k =
+    let e = ap cost (sym (take-append-drop k parts)) ∙ sum_by-append (λ (p : Part). 1 + length p.items) (take k parts) (drop k parts) in
+    omega (arith, e)
+
+none_ahead : (sort : List Key) (part : Part) → begins_with_time sort ≡ false → (xs : List Feature) → AllByRecursion (λ x. is_ahead sort part x ≡ false) xs
+none_ahead sort part e [] = tt
+none_ahead sort part e (x ∷ xs) = (first sort e, none_ahead sort part e xs)
+  where
+    first : (keys : List Key) → begins_with_time keys ≡ false → is_ahead keys part x ≡ false
+    first [] e = refl
+    first (key ∷ keys) e = rw e refl
+
+-- where the order doesn't begin with the time, no part is left out
+within_other : (asked : Asked) (all : List Part) (part : Part) → begins_with_time asked.sort ≡ false → is_within asked all part ≡ true
+within_other asked all part e = go (is_within asked all part) refl
+  where
+    go : (b : Bool) → is_within asked all part ≡ b → is_within asked all part ≡ true
+    go true h = h
+    go false h =
+        let none : length (filter (is_ahead asked.sort part) (found asked all)) ≡ 0 = ap length (filter_none (is_ahead asked.sort part) (found asked all) (none_ahead asked.sort part e (found asked all))) in
+        absurd (grind (arith, nat_tests, h, none))
+
+pub all_within : (asked : Asked) (parts : List Part) → begins_with_time asked.sort ≡ false → filter (is_within asked parts) parts ≡ parts
+all_within asked parts e = filter_all (is_within asked parts) parts (each parts)
+  where
+    each : (ps : List Part) → AllByRecursion (λ p. is_within asked parts p ≡ true) ps
+    each [] = tt
+    each (p ∷ ps) = (within_other asked parts p e, each ps)

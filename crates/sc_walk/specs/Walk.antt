@@ -45,6 +45,11 @@ abbrev pub is_ahead : List Key → Part → Feature → Bool
 is_ahead [] part item = false
 is_ahead (key ∷ keys) part item = is_before key part item
 
+-- the first key of a sort is the time
+abbrev pub begins_with_time : List Key → Bool
+begins_with_time [] = false
+begins_with_time (key ∷ keys) = is_of_time key
+
 -- which of two parts has the earlier front by the first key of a sort
 abbrev pub front_order : List Key → Part → Part → Ordering
 front_order [] p q = Equal

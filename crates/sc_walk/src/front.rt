@@ -3,7 +3,7 @@ ghost use Rattle.std.specs.Arc.{arc_value};
 ghost use Rattle.std.specs.Option.{option_copied};
 ghost use Rattle.sc_sort.specs.declared.value.SortValue.TheVariants.{Moment};
 ghost use Rattle.sc_sort.specs.Order.{order_by};
-ghost use Rattle.sc_walk.specs.Walk.{first_start, first_moment, front_order, is_ahead, is_done, may_follow, reaches};
+ghost use Rattle.sc_walk.specs.Walk.{begins_with_time, first_start, first_moment, front_order, is_ahead, is_done, may_follow, reaches};
 
 use sc_item::Item;
 use sc_shelf::KeptPart;
@@ -69,6 +69,16 @@ fn is_ahead(sort: &SortSpec, part: &KeptPart, item: &Item) -> bool
         return false;
     }
     compare_starts(key.down, Some(item.start()), first_start(key.down, part)).is_lt()
+}
+
+/// Whether a sort begins with the time.
+pub(crate) fn begins_with_time(sort: &SortSpec) -> bool
+    ensures { result ≡ begins_with_time sort.now }
+{
+    match sort.keys().split_first() {
+        None => false,
+        Some((key, _)) => key.is_of_time(),
+    }
 }
 
 /// Whether the last of the first items, where there are as many as are kept, comes strictly before the front of a part.

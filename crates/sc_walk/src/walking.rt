@@ -9,7 +9,7 @@ ghost use Rattle.sc_page.specs.Search.{IsPage, shared};
 ghost use Rattle.sc_walk.specs.Walk.{AreCandidates, cost, is_opened, is_within};
 
 use crate::candidate::Candidate;
-use crate::front::is_done;
+use crate::front::{begins_with_time, is_done};
 use crate::ids::Ids;
 use crate::ordering::ordered_candidates;
 use sc_expr::Select;
@@ -99,6 +99,52 @@ fn take_parts<L: Ledger>(
     Ok(())
 }
 
+/// Takes the items of all candidates.
+fn take_all_parts<L: Ledger>(
+    alloc: Global,
+    first: &mut FirstItems,
+    search: &Search,
+    ids: &Option<Ids>,
+    candidates: &[Candidate],
+    steps: &mut Steps<L>,
+) -> Result<(), AllocError>
+    requires ids { AreNamesOf ids.now search.now.select.ids }
+    requires apart { AreApart (all_items candidates.now) }
+    requires none { HasFound search.now first.now [] }
+    ensures found { OnOk result (HasFound search.now first.new (all_items candidates.now)) }
+    ensures steps { OnOk result (steps.new ≡ steps.old + cost candidates.now) }
+    ensures at_most { steps.new ≤ steps.old + cost candidates.now }
+{
+    for candidate in candidates {
+        take_part(alloc, first, search, ids, candidate.part(), steps)?;
+    }
+    Ok(())
+}
+
+/// Takes the items of candidates as far as they matter. Only where the order begins with the time can a part be left out
+/// by what was taken; else what waits isn't sorted in before each part.
+fn take_candidates<L: Ledger>(
+    alloc: Global,
+    first: &mut FirstItems,
+    search: &Search,
+    ids: &Option<Ids>,
+    candidates: &[Candidate],
+    steps: &mut Steps<L>,
+) -> Result<(), AllocError>
+    requires ids { AreNamesOf ids.now search.now.select.ids }
+    requires ordered { AreCandidates search.now.sort candidates.now }
+    requires apart { AreApart (all_items candidates.now) }
+    requires none { HasFound search.now first.now [] }
+    ensures found { OnOk result (HasFound search.now first.new (all_items candidates.now)) }
+    ensures steps { OnOk result (steps.new ≡ steps.old + cost (filter (is_within search.now candidates.now) candidates.now)) }
+    ensures at_most { steps.new ≤ steps.old + cost (filter (is_within search.now candidates.now) candidates.now) }
+{
+    if begins_with_time(search.sort()) {
+        return take_parts(alloc, first, search, ids, candidates, steps);
+    }
+    take_all_parts(alloc, first, search, ids, candidates, steps)
+}
+
 /// The page of a search over all items of a snapshot, and the steps that it takes, as `answer` says.
 pub(crate) fn answer_search<L: Ledger>(
     alloc: Global,
@@ -113,7 +159,7 @@ pub(crate) fn answer_search<L: Ledger>(
     let candidates = ordered_candidates(alloc, search, snapshot)?;
     let ids = ids_of(alloc, search.select())?;
     let mut first = FirstItems::new(alloc, search);
-    take_parts(alloc, &mut first, search, &ids, &candidates, steps)?;
+    take_candidates(alloc, &mut first, search, &ids, &candidates, steps)?;
     first.into_page(alloc, search)
 }
 

@@ -11,7 +11,7 @@ returns-clause-page g c =
     let asked = c.args.search.now in
     let items = all_items c.in_ok-candidates.candidates.items in
     let there = c.in_ok-candidates.ensures in
-    let found = subst (λ l. HasFound asked c.take_parts.new.first (all_items l)) c.deref.ensures.value c.in_ok-take_parts.ensures.found in
+    let found = subst (λ l. HasFound asked c.take_candidates.new.first (all_items l)) c.deref.ensures.value c.in_ok-take_candidates.ensures.found in
     if_ok_map _ _
     (λ page p. page_of_same asked items (all_items c.args.snapshot.now.parts) (shared page.items) page.next there.found (p items there.apart found))
     c.into_page.result c.into_page.ensures
