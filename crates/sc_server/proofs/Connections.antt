@@ -73,6 +73,9 @@ owed (Some n) (Some m) None (Some ys) most up stays = absurd stays
 owed (Some n) (Some m) (Some xs) None most up stays = absurd stays
 owed (Some n) (Some m) (Some xs) (Some ys) most up stays = omega (arith, most, up, ap length stays)
 
+rose_later : (a b c : ℕ) → a ≤ b → Rose b c → Rose a c
+rose_later a b c l r = omega (arith, l, r)
+
 module _ {In Out E L J : Type 0} (left : In → Option (List ℕ)) (ended : In → Bool) (faults : In → ℕ) (written : Out → Option (List ℕ)) (write_faults : Out → ℕ) (service : Service E L J) where
   served_more : (cs ds : List (In × Out)) (c d : In × Out) (end : ConnEnd) (old mid new : Visitor E)
       → AreServed left ended faults written write_faults service cs ds old mid
