@@ -48,12 +48,12 @@ gate_open records next file ignored is = record {
   whole = is ∙ ap (λ (l : List ℕ). frames records ++ (1 ∷ l)) (append_assoc (counted next) (0 ∷ []) ignored) ∙ sym (frames-last records next (0 ∷ ignored));
 }
 
-pub written_has : (records : List (List ℕ)) (next file : List ℕ) → AllFit records → Fits next → IsWritten records next file → WithOrWithout records next file
-written_has records next file fits next_fits written =
+pub written_has : (records : List (List ℕ)) (next file : List ℕ) → AllFit records → IsWritten records next file → WithOrWithout records next file
+written_has records next file fits written =
     elim (cases_eq written.gate 1) [
       | inl open_gate ↦
           let is : file ≡ frames records ++ (1 ∷ behind_gate next ++ written.ignored) = written.whole ∙ ap (λ (g : ℕ). frames records ++ (g ∷ behind_gate next ++ written.ignored)) open_gate in
-          inr (inr (AllFit-last records next fits next_fits, gate_open records next file written.ignored is))
+          inr (inr (AllFit-last records next fits written.fits, gate_open records next file written.ignored is))
       | inr shut ↦ inl (inr (fits, record { gate = written.gate; ignored = behind_gate next ++ written.ignored; shut = shut; whole = written.whole }))
     ]
 
@@ -76,14 +76,15 @@ module _ (records : List (List ℕ)) (place : ℕ) (is_place : place ≡ length 
       }
 
   -- a record that was written behind it stands there
-  pub closed_written : (next old new : List ℕ) → IsClosed records old → Written (place + 1) (behind_gate next) old new → IsWritten records next new
-  closed_written next old new closed written =
+  pub closed_written : (next old new : List ℕ) → Fits next → IsClosed records old → Written (place + 1) (behind_gate next) old new → IsWritten records next new
+  closed_written next old new fits closed written =
       let after = closed_torn (length (behind_gate next)) old new closed written.torn in
       let front_length : length (frames records ++ after.gate ∷ []) ≡ place + 1 = omega (arith, is_place, length-append (frames records) (after.gate ∷ [])) in
       let back : drop (place + 1) new ≡ after.ignored =
       ap (λ (l : List ℕ). drop (place + 1) l) (after.whole ∙ sym (append_assoc (frames records) (after.gate ∷ []) after.ignored)) ∙ drop_at (frames records ++ after.gate ∷ []) after.ignored (place + 1) front_length in
       let range : take (length (behind_gate next)) after.ignored ≡ behind_gate next = ap (λ (l : List ℕ). take (length (behind_gate next)) l) (sym back) ∙ written.range in
       record {
+        fits = fits;
         gate = after.gate;
         ignored = drop (length (behind_gate next)) after.ignored;
         whole = after.whole ∙ ap (λ (l : List ℕ). frames records ++ (after.gate ∷ l)) (sym (take-append-drop (length (behind_gate next)) after.ignored) ∙ ap (λ (l : List ℕ). l ++ drop (length (behind_gate next)) after.ignored) range);
@@ -103,7 +104,7 @@ module _ (records : List (List ℕ)) (place : ℕ) (is_place : place ≡ length 
       sym (take-append-drop place new) ∙ ap (λ (l : List ℕ). l ++ drop place new) front ∙ ap (λ (l : List ℕ). frames records ++ l) at_gate
 
   pub written_torn : (next old new : List ℕ) → IsWritten records next old → Torn place 1 old new → IsWritten records next new
-  written_torn next old new written torn = record { gate = get_or new place 0; ignored = written.ignored; whole = gate_of next old new written torn }
+  written_torn next old new written torn = record { fits = written.fits; gate = get_or new place 0; ignored = written.ignored; whole = gate_of next old new written torn }
 
   -- the gate that was written stands there
   pub gate_written : (next old new : List ℕ) (gate : ℕ) → (written : IsWritten records next old) → Written place (gate ∷ []) old new → new ≡ frames records ++ (gate ∷ behind_gate next ++ written.ignored)

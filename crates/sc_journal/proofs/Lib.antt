@@ -1,2 +1,6 @@
 pub mod Tears
 pub mod Files
+pub mod Holding
+pub mod Lists
+pub mod Steps
+pub mod Remembered

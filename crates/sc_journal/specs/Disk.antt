@@ -42,3 +42,11 @@ pub record Gains (before : ℕ) (past since : ℕ → List ℕ → Type 0) (now 
 pub record LeavesOnly {D : Type 0} (clock : D → ℕ) (left_since : D → ℕ → List ℕ → Type 0) (old new : D) (files : List ℕ → Type 0) : Type 0 where
   pub each : Within (left_since new (clock old)) files
   pub before : (t : ℕ) (c : List ℕ) → t ≤ clock old → left_since new t c → left_since old t c ⊎ files c
+
+-- A disk was only looked at: reads give what they gave, and a crash at any moment leaves what it might have left before.
+pub record Observed {D : Type 0} (tells : D → Type 0) (reads : D → List ℕ) (may_leave : D → List ℕ → Type 0) (clock : D → ℕ) (left_since : D → ℕ → List ℕ → Type 0) (old new : D) : Type 0 where
+  pub told : tells new → tells old
+  pub reads_same : tells new → reads new ≡ reads old
+  pub crash : tells new → Same (may_leave old) (may_leave new)
+  pub any_moment : tells new → LeavesOnly clock left_since old new (may_leave old)
+  pub later : clock old ≤ clock new

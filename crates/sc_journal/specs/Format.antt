@@ -53,3 +53,7 @@ pub record IsBroken (file : List ℕ) (records : List (List ℕ)) : Type 0 where
   pub behind : List ℕ
   pub split : file ≡ frames records ++ 1 ∷ behind
   pub broken : IsNoRecord behind
+
+-- a file has the records of one of these files
+abbrev pub SameRecords : (List ℕ → Type 0) → List ℕ → Type 0
+SameRecords files file = (old : List ℕ) × files old × ((records : List (List ℕ)) → HasRecords old records → HasRecords file records)

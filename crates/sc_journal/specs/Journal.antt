@@ -1,6 +1,6 @@
 -- What a journal holds, and what a crash leaves of it.
 use Rattle.std.specs.Prelude.{◌≡◌, ◌⊎◌, ℕ, List, [], ◌∷◌, ◌++◌, length}
-use Rattle.sc_journal.specs.Format.{frames, behind_gate, AllFit, IsClosed, HasRecords}
+use Rattle.sc_journal.specs.Format.{frames, behind_gate, Fits, AllFit, IsClosed, HasRecords}
 use Rattle.sc_journal.specs.declared.journal.Journal.{Journal}
 use Rattle.sc_journal.specs.declared.journal.LastAppend.{LastAppend}
 use Rattle.sc_journal.specs.declared.journal.LastAppend.TheVariants.{Stored, GateClosed, GateWritten}
@@ -11,6 +11,7 @@ WithOrWithout records next file = HasRecords file records ⊎ HasRecords file (r
 
 -- behind the records stands a gate, open or closed, and behind it the whole next record
 pub record IsWritten (records : List (List ℕ)) (next file : List ℕ) : Type 0 where
+  pub fits : Fits next
   pub gate : ℕ
   pub ignored : List ℕ
   pub whole : file ≡ frames records ++ (gate ∷ behind_gate next ++ ignored)
