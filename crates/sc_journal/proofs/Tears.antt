@@ -46,3 +46,17 @@ module _ {D : Type 0} (clock : D → ℕ) (left_since : D → ℕ → List ℕ �
 pub synced : {E : Type 0} (result : Result (Unit {0}) E) (files old now : List ℕ → Type 0) (was reads : List ℕ) → OnOk result (Only reads now) → OnErr result (Same old now) → reads ≡ was → old was → Within old files → Within now files
 synced (Ok done) files old now was reads only same is left within c leaves = within c (subst old (sym (only c leaves ∙ is)) left)
 synced (Err fault) files old now was reads only same is left within c leaves = within c (same.none_new c leaves)
+
+-- ---- results
+
+pub on_err : {T E P : Type 0} (result : Result T E) → P → OnErr result P
+on_err (Ok x) p = tt
+on_err (Err e) p = p
+
+pub on_err_to : {T E P Q : Type 0} (result : Result T E) → (P → Q) → OnErr result P → OnErr result Q
+on_err_to (Ok x) f p = tt
+on_err_to (Err e) f p = f p
+
+pub on_ok_to : {T E P Q : Type 0} (result : Result T E) → (P → Q) → OnOk result P → OnOk result Q
+on_ok_to (Ok x) f p = f p
+on_ok_to (Err e) f p = tt

@@ -110,8 +110,9 @@ impl SureDisk {
             Err(_) => unreachable!(),
         }
         append_within(&mut self.bytes, piece);
-        if self.bytes.len() < size {
-            append_within(&mut self.bytes, &self.kept[from + self.bytes.len()..]);
+        let end = self.bytes.len();
+        if end < size {
+            append_within(&mut self.bytes, &self.kept[from + end..]);
         }
     }
 }

@@ -1,0 +1,6 @@
+//! A catalogue whose loads outlive a crash, by a journal of them.
+#![tactic(auto)]
+
+mod seal;
+
+pub use seal::seal;
