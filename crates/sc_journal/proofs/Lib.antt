@@ -4,3 +4,4 @@ pub mod Holding
 pub mod Lists
 pub mod Steps
 pub mod Remembered
+pub mod Looking

@@ -103,21 +103,20 @@ fn find<D: Disk>(alloc: Global, disk: &mut D) -> Result<Found, OpenFault>
     Ok(records_in(alloc, &bytes)?)
 }
 
-/// The first `size` bytes. A disk that doesn't tell may give fewer.
+/// The bytes of a disk of this length. One that doesn't tell may give fewer or more.
 fn read_file<D: Disk>(alloc: Global, disk: &mut D, size: usize) -> Result<Vec<u8>, OpenFault>
     ensures bytes { D.tells disk.new → size ≡ length (D.reads disk.old) → IfOk result (λ bytes. bytes.items ≡ D.reads disk.old) }
     ensures observed { Observed D.tells D.reads D.may_leave D.clock D.left_since disk.old disk.new }
     ensures cause { Faulted result (D.faults disk.old) (D.faults disk.new) }
 {
-    let mut bytes = vec![in alloc; 0u8; size]?;
-    let mut at = 0;
-    'reading: while at < bytes.len() {
-        let count = disk.read_at(at as u64, &mut bytes[at..])?;
+    let mut bytes = Vec::with_capacity(alloc, size)?;
+    let mut buf = [0u8; 65536];
+    'reading: while bytes.len() < size {
+        let count = disk.read_at(bytes.len() as u64, &mut buf)?;
         if count == 0 {
-            bytes.truncate(at);
             return Ok(bytes);
         }
-        at += count;
+        bytes.extend_from_slice(&buf[..count])?;
     }
     Ok(bytes)
 }
