@@ -11,7 +11,7 @@ pub returns-in_err-close_gate-clause-any_moment : goal.returns-in_err-close_gate
 returns-in_err-close_gate-clause-any_moment g c = λ records h t. c.close_gate.ensures.any_moment records c.args.sealed.now h t
 
 pub returns-in_err-write_behind-clause-kept : goal.returns-in_err-write_behind-clause-kept
-returns-in_err-write_behind-clause-kept g c = on_err c.from_residual-2.result (λ records h. c.write_behind.ensures.holds records (c.close_gate.ensures.holds records c.args.sealed.now h))
+returns-in_err-write_behind-clause-kept g c = on_err c.from_residual-in_err-write_behind.result (λ records h. c.write_behind.ensures.holds records (c.close_gate.ensures.holds records c.args.sealed.now h))
 
 pub returns-in_err-write_behind-clause-any_moment : goal.returns-in_err-write_behind-clause-any_moment
 returns-in_err-write_behind-clause-any_moment g c = λ records h t.
