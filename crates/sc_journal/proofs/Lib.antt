@@ -5,4 +5,4 @@ pub mod Lists
 pub mod Steps
 pub mod Remembered
 pub mod Looking
-pub mod Opening
+pub mod Openings

@@ -1,5 +1,5 @@
 use Rattle.std.proofs.Common.{◌*◌, ◌≤◌, length, ap, arith}
-use Rattle.sc_journal.proofs.Opening.{few_records}
+use Rattle.sc_journal.proofs.Openings.{few_records}
 use Rattle.sc_journal.proofs.opening.open.Goals as goal
 
 pub invariant_of-journal : goal.invariant_of-journal
