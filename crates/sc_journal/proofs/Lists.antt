@@ -7,7 +7,6 @@ use Rattle.std.specs.Int.{w64, to_be_bytes, from_be_bytes}
 use Rattle.sc_journal.specs.Format.{counted, framed, frames, Fits, AllFit, IsClosed, HasRecords, IsNoRecord, IsBroken}
 use Rattle.sc_journal.proofs.Files.{length-counted}
 
-
 -- ---- one record
 
 -- a number of eight bytes is read off the front

@@ -93,7 +93,7 @@ module _ {D : Type 0} (tells : D → Type 0) (reads : D → List ℕ) (may_leave
       let m = told t in
       both clock left_since old mid new (SameRecords (may_leave old)) stored.later (stored_keeps old mid stored m)
       (weaker clock left_since mid new (TornFrom 0 1 (may_leave mid)) (SameRecords (may_leave old)) (λ f torn.
-          torn_short (may_leave old) (reads old) f (short m) (reads_now old (stored.told m)) (subst (λ (d : List ℕ). Torn 0 1 d f) (stored.only m torn.0 torn.1) torn.2)) (run t))
+      torn_short (may_leave old) (reads old) f (short m) (reads_now old (stored.told m)) (subst (λ (d : List ℕ). Torn 0 1 d f) (stored.only m torn.0 torn.1) torn.2)) (run t))
 
   -- a file with records is theirs in each file that a crash may leave
   pub stored_closed : (old new : D) (records : List (List ℕ)) → IsStored old new → AllFit records → IsClosed records (reads old) → tells new → HasRecords (reads old) records × ((file : List ℕ) → may_leave new file → IsClosed records file)

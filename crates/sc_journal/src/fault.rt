@@ -10,9 +10,7 @@ pub enum OpenFault {
     /// The disk failed. It comes only where its count of faults rose.
     DiskFault,
     /// The record with this number, from 0, has an open gate and isn't whole, or has no gate after it.
-    BadRecord {
-        n: u64,
-    },
+    BadRecord { n: u64 },
     /// Memory was wanting.
     OutOfMemory,
 }

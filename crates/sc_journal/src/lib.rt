@@ -3,29 +3,22 @@
 #![tactic(auto)]
 
 mod append;
-mod change;
 mod disk;
-mod failing;
 mod fault;
 mod file;
 mod journal;
 mod laws;
-mod memory;
 mod opening;
-mod pieces;
 mod reading;
 mod sealed;
 mod store;
-mod sure;
 
 pub use disk::Disk;
 pub use fault::OpenFault;
 pub use file::FileDisk;
 pub use journal::{Journal, LastAppend};
 pub use laws::{one_bad_record, one_list};
-pub use memory::MemDisk;
 pub use opening::{OpenRefused, Opened, open};
 pub use sc_base::Seq;
 pub use sc_outside::Failed;
 pub use sealed::Sealed;
-pub use sure::SureDisk;

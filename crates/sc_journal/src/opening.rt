@@ -54,7 +54,13 @@ pub fn open<D: Disk>(alloc: Global, disk: D) -> Result<Opened<D>, OpenRefused<D>
 {
     let mut disk = disk;
     match find(alloc, &mut disk) {
-        Ok(Found { records, place, whole: true }) => {
+        Ok(
+            Found {
+                records,
+                place,
+                whole: true,
+            },
+        ) => {
             let journal = Journal {
                 disk,
                 place: place as u64,
@@ -63,7 +69,13 @@ pub fn open<D: Disk>(alloc: Global, disk: D) -> Result<Opened<D>, OpenRefused<D>
             };
             Ok(Opened { journal, records })
         }
-        Ok(Found { records, whole: false, .. }) => Err(OpenRefused {
+        Ok(
+            Found {
+                records,
+                whole: false,
+                ..
+            },
+        ) => Err(OpenRefused {
             fault: OpenFault::BadRecord {
                 n: records.len() as u64,
             },
