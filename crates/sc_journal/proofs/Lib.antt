@@ -1,0 +1,7 @@
+pub mod Tears
+pub mod Files
+pub mod Holding
+pub mod Lists
+pub mod Steps
+pub mod Looking
+pub mod Openings

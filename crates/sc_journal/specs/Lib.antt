@@ -1,0 +1,4 @@
+pub mod Disk
+pub mod Format
+pub mod Journal
+pub mod Opening
