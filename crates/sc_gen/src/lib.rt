@@ -3,7 +3,7 @@
 
 mod document;
 mod draw;
-mod generate;
+mod loads;
 mod parts;
 
-pub use generate::generate;
+pub use loads::generate;
