@@ -1,5 +1,6 @@
 //! Steps of the grid as decimal texts of degrees.
 #![tactic(auto)]
+
 ghost use Rattle.std.specs.Prelude.{◌≡◌, ◌++◌, ◌<◌, ◌≤◌, ◌^◌, OnOk, string_bytes};
 ghost use Rattle.sc_degrees.specs.Degrees.{places, fraction_text, degrees_text};
 

@@ -1,4 +1,4 @@
-ghost use Rattle.std.specs.Prelude.{◌≡◌, ◌++◌, ◌∷◌, [], ◌<◌, IfOk, OnOk, string_bytes, decimal};
+ghost use Rattle.std.specs.Prelude.{◌≡◌, ◌+◌, ◌++◌, ◌∷◌, [], ◌<◌, IfOk, OnOk, string_bytes};
 ghost use Rattle.sc_gen.specs.Document as spec;
 ghost use Rattle.sc_gen.specs.Generated.{IsDocument};
 
@@ -54,12 +54,7 @@ fn push_decimals(out: &mut String, hundredths: u32) -> Result<(), AllocError>
     push_digit(out, hundredths % 10)
 }
 
-fn push_names(
-    out: &mut String,
-    collection: &Text,
-    load: u32,
-    number: u32,
-) -> Result<(), AllocError>
+fn push_names(out: &mut String, collection: &Text, load: u32, number: u32) -> Result<(), AllocError>
     ensures { OnOk result (string_bytes out.new ≡ string_bytes out.old ++ spec.names_text collection.now load number) }
 {
     out.push_str(collection_part())?;

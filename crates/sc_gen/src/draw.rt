@@ -35,7 +35,6 @@ pub(crate) struct Draw {
 
 impl Draw {
     /// The next four words of a generator.
-    #[tactic(auto, using(crate::proofs::Words::second, crate::proofs::Words::third, crate::proofs::Words::fourth))]
     pub(crate) fn of(words: &mut Lcg64Xsh32) -> Draw
         ensures draw { result ≡ draw_of words.old }
         ensures behind { words.new ≡ advance 64 multiplier_64 4 words.old }
