@@ -121,6 +121,10 @@ fn measure_all(rt: &HostRuntime, items: &[Arc<Item>]) -> anyhow::Result<()>
 fn main(rt: HostRuntime) -> anyhow::Result<()> {
     let alloc = rt.alloc();
     let items = read_items(&rt)?;
+    // Nothing is measured of nothing.
+    if items.is_empty() {
+        return Ok(());
+    }
     if let Some(_) = first_repeat(alloc, items.as_slice())? {
         println!(rt; "two items have one name")?;
         return Ok(());
