@@ -97,9 +97,10 @@ fn token_of(alloc: Global, items: &[Arc<Item>]) -> Result<Option<Text>, AllocErr
     let Some(query) = query_of(alloc, Wanted::Latest, "990", "")? else {
         return Ok(None);
     };
-    match flat_page(alloc, items, &query)?.next {
+    let page = flat_page(alloc, items, &query)?;
+    match &page.next {
         None => Ok(None),
-        Some(place) => Ok(Some(write_token(alloc, &place)?)),
+        Some(place) => Ok(Some(write_token(alloc, place)?)),
     }
 }
 
