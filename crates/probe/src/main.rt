@@ -9,6 +9,7 @@ mod cuts;
 mod geometries;
 mod item;
 mod json;
+mod loads;
 mod numbers;
 mod orders;
 mod times;
@@ -24,6 +25,7 @@ fn answer(alloc: Global, kind: &[u8], input: &[u8]) -> Result<Option<String>, Al
         b"cut-key" => cuts::cut_key(alloc, input),
         b"dec" => Ok(Some(numbers::dec(alloc, input)?)),
         b"dec-order" => numbers::dec_order(alloc, input),
+        b"generate" => loads::generated(alloc, input),
         b"item" => item::item(alloc, input),
         b"json" => Ok(Some(json::json(alloc, input)?)),
         b"key-order" => orders::key_order(alloc, input),
