@@ -124,7 +124,7 @@ def queries():
     asks("1,023 nodes", searched(filter=chain(511)), [200])
     asks("1,025 nodes", searched(filter=chain(512)), [(400, "BadFilter TooManyNodes")])
     asks("64 parentheses", searched(filter="(" * 64 + "a = 1" + ")" * 64), [200])
-    asks("65 parentheses", searched(filter="(" * 65 + "a = 1" + ")" * 65), [(400, "BadFilter Syntax 64")])
+    asks("65 parentheses", searched(filter="(" * 65 + "a = 1" + ")" * 65), [(400, "BadFilter TooDeep")])
     ids = lambda count: json.dumps({"ids": ["i%d" % number for number in range(count)]}).encode()
     asks("10,000 ids", post("/search", ids(10000)), [200])
     asks("10,001 ids", post("/search", ids(10001)), [(400, "BadIds")])
