@@ -1,6 +1,7 @@
 pub mod Apart
 pub mod Repeats
 pub mod Members
+pub mod Placing
 pub mod Extending
 pub mod Patches
 pub mod PatchGood

@@ -9,3 +9,4 @@ pub mod Line
 pub mod Memory
 pub mod Names
 pub mod Patch
+pub mod Places

@@ -8,6 +8,7 @@ mod line;
 mod names;
 mod parts;
 mod patch;
+mod places;
 mod read;
 mod shape;
 mod times;

@@ -1,9 +1,11 @@
 ghost use Rattle.std.specs.Prelude.{◌≡◌, ◌++◌, List, IfOk, OnOk};
 ghost use Rattle.sc_json.specs.declared.tree.Member.{Member as AMember};
 ghost use Rattle.sc_json.specs.Good.{Good};
+ghost use Rattle.sc_item.specs.Places.{AgreeIfAny};
 ghost use Rattle.sc_item.specs.Patch.{Patched, Leaves, AreKept, Adds, AreAdded};
 
-use crate::trees::{has_named, index_named, is_null, members_in};
+use crate::places::{Places, has_in, index_in, places_of};
+use crate::trees::{is_null, members_in};
 use sc_base::Seq;
 use sc_json::{Json, Member};
 use std::alloc::{AllocError, Global};
@@ -27,12 +29,14 @@ fn changed(alloc: Global, changes: &[Member], members: &[Member]) -> Result<Vec<
     ensures { IfOk result (λ all. (kept added : List AMember) × (all.items ≡ kept ++ added) ×
         AreKept changes.now members.now kept × AreAdded members.now changes.now added) }
 {
+    let change_places = &places_of(alloc, changes, members.len())?;
+    let member_places = &places_of(alloc, members, changes.len())?;
     let mut all = Vec::with_capacity(alloc, members.len())?;
     for member in members {
-        keep(alloc, changes, member, &mut all)?;
+        keep(alloc, change_places, changes, member, &mut all)?;
     }
     for change in changes {
-        add(alloc, change, members, &mut all)?;
+        add(alloc, change, member_places, members, &mut all)?;
     }
     Ok(all)
 }
@@ -41,13 +45,15 @@ fn changed(alloc: Global, changes: &[Member], members: &[Member]) -> Result<Vec<
 #[cycle(patch)]
 fn keep(
     alloc: Global,
+    places: &Option<Places>,
     changes: &[Member],
     member: &Member,
     all: &mut Vec<Member>,
 ) -> Result<(), AllocError>
+    requires { AgreeIfAny places.now changes.now }
     ensures { OnOk result ((front : List AMember) × (all.new.items ≡ all.old.items ++ front) × Leaves changes.now member.now front) }
 {
-    match index_named(changes, member.name.as_str()) {
+    match index_in(places, changes, &member.name) {
         None => {
             let name = member.name.try_clone(alloc)?;
             let value = member.value.try_clone(alloc)?;
@@ -72,12 +78,14 @@ fn keep(
 fn add(
     alloc: Global,
     change: &Member,
+    places: &Option<Places>,
     members: &[Member],
     all: &mut Vec<Member>,
 ) -> Result<(), AllocError>
+    requires { AgreeIfAny places.now members.now }
     ensures { OnOk result ((front : List AMember) × (all.new.items ≡ all.old.items ++ front) × Adds members.now change.now front) }
 {
-    if has_named(members, change.name.as_str()) {
+    if has_in(places, members, &change.name) {
         return Ok(());
     }
     if is_null(&change.value) {

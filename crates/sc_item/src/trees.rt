@@ -3,7 +3,6 @@ ghost use Rattle.std.specs.Option.{option_copied};
 ghost use Rattle.sc_json.specs.declared.tree.Member.{Member as AMember, out-Member};
 ghost use Rattle.sc_json.specs.Member.{member_value, value_in};
 ghost use Rattle.std.specs.List.{position};
-ghost use Rattle.sc_json.specs.Names.{has_name};
 ghost use Rattle.sc_item.specs.Trees.{is_named, text_of, is_null, is_object, members_in, text_member};
 
 use sc_base::Text;
@@ -72,14 +71,7 @@ pub(crate) fn text_member<'a>(tree: &'a Json, name: &str) -> Option<&'a Text>
     }
 }
 
-/// Whether a member has this name.
-pub(crate) fn has_named(members: &[Member], name: &str) -> bool
-    ensures { result ≡ has_name members.now name.now }
-{
-    members.iter().any(|member| member.name.as_str() == name)
-}
-
-fn position_named(members: &[Member], name: &str) -> Option<usize>
+pub(crate) fn position_named(members: &[Member], name: &str) -> Option<usize>
     ensures { result ≡ position (is_named name.now) members.now }
 {
     members

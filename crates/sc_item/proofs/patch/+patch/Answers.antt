@@ -1,4 +1,4 @@
-use Rattle.std.proofs.Common.{rules, ℕ, subst, ◌≡◌, List, [], ◌∷◌, ◌++◌, true, false, Some, None, ap, sym, ◌∙◌, append-nil, arith}
+use Rattle.std.proofs.Common.{rules, subst, ◌≡◌, [], ◌∷◌, ◌++◌, true, false, Some, None, ap, sym, ◌∙◌, append-nil, arith}
 use Rattle.std.proofs.lemmas.Grind.{common_steps}
 use Rattle.sc_json.specs.declared.tree.Member.{Member, out-Member}
 use Rattle.sc_json.specs.Grammar.{member}
@@ -9,8 +9,8 @@ use Rattle.sc_item.specs.Patch.{Patched, none_kept, none_added, same, removed, c
 use Rattle.sc_item.proofs.Patches.{made, merged_from, kept_more, added_more, all_kept, copied}
 use Rattle.sc_item.proofs.patch.+patch.Goals as goal
 
-pub add-returns-then-has_named : goal.add-returns-then-has_named
-add-returns-then-has_named t c =
+pub add-returns-then-has_in : goal.add-returns-then-has_in
+add-returns-then-has_in t c =
     let e : has_name c.args.members.now (out-Member c.args.change.now).name ≡ true = cc in
     ([], sym (append-nil _), known _ _ e)
 
@@ -50,7 +50,7 @@ keep-returns-then-is_null t c =
 
 pub keep-returns-in_ok-push-in-None : goal.keep-returns-in_ok-push-in-None
 keep-returns-in_ok-push-in-None t c =
-    let e : value_in c.args.changes.now (out-Member c.args.member.now).name ≡ None = subst (λ (x : List ℕ). value_in c.args.changes.now x ≡ None) c.as_str.ensures c.in-None.ensures in (
+    let e : value_in c.args.changes.now (out-Member c.args.member.now).name ≡ None = c.in-None.ensures in (
       c.args.member.now ∷ [],
       c.in_ok-push-in-None.ensures.items ∙ ap (λ x. c.args.all.now.items ++ (x ∷ [])) (made _ _ c.args.member.now c.in_ok-name-in-None.ensures c.in_ok-value-in-None.ensures),
       same c.args.changes.now c.args.member.now e,
