@@ -6,11 +6,15 @@ use std::collections::LinkedList;
 
 /// What the queue's rule knows of a pass. No value of it is made.
 pub struct Hand {
+    /// How many of the 1,024 shares the pass has.
     pub shares: u64,
+    /// The notices that it told, in their order.
     pub told: LinkedList<Notice>,
+    /// The notices that it heard, in their order.
     pub heard: LinkedList<Notice>,
 }
 
+/// The rule: over all passes, each notice that was told was heard or is in the queue.
 pub struct Balance;
 
 impl Protocol<Notice, Hand> for Balance {
@@ -22,6 +26,7 @@ impl Protocol<Notice, Hand> for Balance {
     ghost first = { hand 1_024 [] [] };
 }
 
+/// A pass tells a notice.
 pub struct Tells;
 
 impl Outcome<Notice, Hand> for Tells {
@@ -37,6 +42,7 @@ impl Lesson<Notice, Hand> for Tells {
     ghost fact = { KnowsAll };
 }
 
+/// A pass hears a notice.
 pub struct Hears;
 
 impl Outcome<Notice, Hand> for Hears {
@@ -52,6 +58,7 @@ impl Lesson<Notice, Hand> for Hears {
     ghost fact = { KnowsAll };
 }
 
+/// A further pass gets one share and has told and heard nothing; where two passes become one, all is the sum.
 pub struct Deals;
 
 impl Split<Hand> for Deals {

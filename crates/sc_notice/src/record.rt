@@ -7,6 +7,7 @@ use std::alloc::{AllocError, Global};
 use std::collections::LinkedList;
 use std::snapshot::Snapshot;
 
+/// The rule of the record: each pen writes its own list, which begins empty.
 pub struct AnyCalls;
 
 impl TableRule<Snapshot<Notice>, LinkedList<Call>, ()> for AnyCalls {
@@ -17,6 +18,7 @@ impl TableRule<Snapshot<Notice>, LinkedList<Call>, ()> for AnyCalls {
     ghost first = { λ _. [] };
 }
 
+/// A pen writes that a notice was told.
 pub struct WritesTold;
 
 impl Play<Snapshot<Notice>, LinkedList<Call>> for WritesTold {
@@ -26,6 +28,7 @@ impl Play<Snapshot<Notice>, LinkedList<Call>> for WritesTold {
     ghost then = { wrote Told };
 }
 
+/// A pen writes that a notice was handed back.
 pub struct WritesBack;
 
 impl Play<Snapshot<Notice>, LinkedList<Call>> for WritesBack {
@@ -35,6 +38,7 @@ impl Play<Snapshot<Notice>, LinkedList<Call>> for WritesBack {
     ghost then = { wrote HandedBack };
 }
 
+/// A pen writes that a notice was heard.
 pub struct WritesHeard;
 
 impl Play<Snapshot<Notice>, LinkedList<Call>> for WritesHeard {
@@ -44,6 +48,7 @@ impl Play<Snapshot<Notice>, LinkedList<Call>> for WritesHeard {
     ghost then = { wrote Heard };
 }
 
+/// A pen writes that none was heard.
 pub struct WritesNone;
 
 impl Play<Snapshot<Notice>, LinkedList<Call>> for WritesNone {
@@ -53,6 +58,7 @@ impl Play<Snapshot<Notice>, LinkedList<Call>> for WritesNone {
     ghost then = { λ st me found after. after ≡ (me.0 ++ HeardNone ∷ [], me.1) };
 }
 
+/// A further pen has written nothing.
 pub struct BeginsAnew;
 
 impl Split<LinkedList<Call>> for BeginsAnew {

@@ -6,7 +6,6 @@ use Rattle.sc_http.specs.Reply.{reply_bytes}
 use Rattle.sc_http.specs.declared.fault.HttpEnd.{HttpEnd}
 use Rattle.sc_load.specs.declared.load.Load.{Load}
 use Rattle.sc_catalog.specs.declared.entry.Entry.{Entry}
-use Rattle.sc_catalog.specs.declared.entry.Published.{Published}
 use Rattle.sc_catalog.specs.Entries.{by, entry_of}
 use Rattle.sc_load.specs.declared.fault.LoadFault.TheVariants as Fault
 use Rattle.sc_visit.specs.Visits.{Visitor, TakesTurn}
@@ -34,15 +33,15 @@ said_text said revision close = reply_bytes (reply_of said revision close)
 module _ (base : List ℕ) (close : Bool) where
   -- ---- a load in one turn
 
-  pub accepted : (load : Load) (published : Published) (old new : Visitor Entry) (made : Bool) (items : ℕ) (text : List ℕ) → TakesLoad load published old new
-      → made ≡ makes load → items ≡ count_of load → text ≡ said_text (accepted_of made published.revision items) published.revision close → IsTried base close load text old new
-  accepted load published old new made items text took m i t = record {
+  pub accepted : (load : Load) (revision : ℕ) (old new : Visitor Entry) (made : Bool) (items : ℕ) (text : List ℕ) → TakesLoad load revision old new
+      → made ≡ makes load → items ≡ count_of load → text ≡ said_text (accepted_of made revision items) revision close → IsTried base close load text old new
+  accepted load revision old new made items text took m i t = record {
     accepted = true;
     publishes = took.turn;
     said = accepted_of (makes load) (length new.seen) (count_of load);
     says = refl;
-    text_is = t ∙ ap (λ b. said_text (accepted_of b published.revision items) published.revision close) m ∙ ap (λ n. said_text (accepted_of (makes load) published.revision n) published.revision close) i
-        ∙ ap (λ r. said_text (accepted_of (makes load) r (count_of load)) r close) took.is.revision_is;
+    text_is = t ∙ ap (λ b. said_text (accepted_of b revision items) revision close) m ∙ ap (λ n. said_text (accepted_of (makes load) revision n) revision close) i
+        ∙ ap (λ r. said_text (accepted_of (makes load) r (count_of load)) r close) took.revision_is;
   }
 
   pub refused : {F : Type 0} (load : Load) (why : LoadRefused) (old new : Visitor Entry) (said : Saying) (r : Result (List ℕ) F) → RefusesLoad load why old new

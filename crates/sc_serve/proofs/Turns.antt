@@ -17,12 +17,6 @@ use Rattle.sc_desk.specs.declared.calls.LoadRefused.{LoadRefused}
 use Rattle.sc_desk.specs.Turns.{own_of, Publishes}
 use Rattle.sc_serve.specs.Desks.{TakesSnapshot, TriesLoad, IsAlone}
 
--- what a desk's pass tells of a load
-pub tried : (load : Load) (r : Result Published LoadRefused) (old new : Visitor Entry) → TakesTurn by (own_of old.number load r) old new → IfOk r (λ _. Publishes load old new)
-    → IfOk r (IsTaken old.number load new.seen) → IfErr r (λ e. Refuses (loads_of new.seen) load e.fault) → IfErr r (λ e. e.revision ≡ length new.seen) → TriesLoad load r old new
-tried load (Ok p) old new turn took ok fault revision = record { turn = took; is = ok }
-tried load (Err e) old new turn took ok fault revision = record { turn = turn; is = fault; revision_is = revision }
-
 -- ---- a catalogue that nobody else has
 
 -- the pass behind a turn of its own
@@ -62,7 +56,7 @@ module _ (h : Holdings) (old : Visitor Entry) (alone : IsAlone h.entries old) wh
     abbrev next : Visitor Entry
     next = after old (entry_of 1 load ∷ [])
 
-    pub takes_load : (next : Visitor Entry) × IsAlone new.entries next × TriesLoad load (Ok published) old next
+    pub takes_load : (next : Visitor Entry) × IsAlone new.entries next × TriesLoad load (Ok published.revision) old next
     takes_load =
         let seen : next.seen ≡ new.entries = ap (λ l. l ++ entry_of 1 load ∷ []) alone.seen_is ∙ sym is.entries_are in (
           next,
@@ -74,12 +68,6 @@ module _ (h : Holdings) (old : Visitor Entry) (alone : IsAlone h.entries old) wh
           record {
             turn = subst (λ n. (turn : TakesTurn by (entry_of n load ∷ []) old next) × Takes turn.found load) (sym alone.number_is)
                 (takes (entry_of 1 load ∷ []) old, subst (λ l. Takes l load) (sym alone.seen_is) is.takes);
-            is = subst (λ n. IsTaken n load next.seen published) (sym alone.number_is) (subst (λ l. IsTaken 1 load l published) (sym seen) (record {
-              before = h.entries;
-              whole = is.entries_are;
-              takes = is.takes;
-              touched_are = is.touched_are;
-              revision_is = is.revision_is;
-            }));
+            revision_is = is.revision_is ∙ ap length (sym seen);
           },
         )

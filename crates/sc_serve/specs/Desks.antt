@@ -1,11 +1,10 @@
 -- What the calls of a desk do for the one pass that takes its turns there.
-use Rattle.std.specs.Prelude.{◌≡◌, List, [], length, Result, Ok, Err, IfOk, All}
+use Rattle.std.specs.Prelude.{◌≡◌, ℕ, List, [], length, Result, Ok, Err, IfOk, All}
 use Rattle.sc_load.specs.declared.load.Load.{Load}
 use Rattle.sc_history.specs.Taken.{Refuses}
 use Rattle.sc_history.specs.Views.{Snap}
 use Rattle.sc_catalog.specs.declared.entry.Entry.{Entry}
-use Rattle.sc_catalog.specs.declared.entry.Published.{Published}
-use Rattle.sc_catalog.specs.Entries.{by, loads_of, IsSnapshotOf, IsTaken}
+use Rattle.sc_catalog.specs.Entries.{by, loads_of, IsSnapshotOf}
 use Rattle.sc_visit.specs.Visits.{Visitor, TakesTurn}
 use Rattle.sc_desk.specs.declared.calls.LoadRefused.{LoadRefused}
 use Rattle.sc_desk.specs.Turns.{Publishes}
@@ -15,10 +14,10 @@ pub record TakesSnapshot {F : Type 0} (result : Result Snap F) (old new : Visito
   pub turn : TakesTurn by [] old new
   pub is : IfOk result (λ snap. IsSnapshotOf new.seen snap)
 
--- one turn, which adds the load, and what is told of it
-pub record TakesLoad (load : Load) (published : Published) (old new : Visitor Entry) : Type 0 where
+-- one turn, which adds the load; this is the length of the history with it
+pub record TakesLoad (load : Load) (revision : ℕ) (old new : Visitor Entry) : Type 0 where
   pub turn : Publishes load old new
-  pub is : IsTaken old.number load new.seen published
+  pub revision_is : revision ≡ length new.seen
 
 -- one turn, which adds nothing, and why the history that it found refuses the load
 pub record RefusesLoad (load : Load) (refused : LoadRefused) (old new : Visitor Entry) : Type 0 where
@@ -27,8 +26,8 @@ pub record RefusesLoad (load : Load) (refused : LoadRefused) (old new : Visitor 
   pub revision_is : refused.revision ≡ length new.seen
 
 -- one turn, which takes the load or refuses it
-abbrev pub TriesLoad : Load → Result Published LoadRefused → Visitor Entry → Visitor Entry → Type 0
-TriesLoad load (Ok published) old new = TakesLoad load published old new
+abbrev pub TriesLoad : Load → Result ℕ LoadRefused → Visitor Entry → Visitor Entry → Type 0
+TriesLoad load (Ok revision) old new = TakesLoad load revision old new
 TriesLoad load (Err refused) old new = RefusesLoad load refused old new
 
 -- what is seen of the one pass of a catalogue that nobody else has: all entries are its own

@@ -1,3 +1,4 @@
 pub mod Desks
+pub mod Notices
 pub mod Replies
 pub mod Service

@@ -48,7 +48,7 @@ fn answer_job<R, D: Desk<R>, L: Ledger>(
     close: bool,
 ) -> Result<Text, AllocError>
     requires { IsFormed job.work }
-    ensures { (old : Visitor CatalogueEntry) → D.stands desk.old old → (new : Visitor CatalogueEntry) × D.stands desk.new new × Handles base.now close (Ok job) result old new }
+    ensures { (begun : D) (old : Visitor CatalogueEntry) → D.stands begun desk.old old → (new : Visitor CatalogueEntry) × D.stands begun desk.new new × Handles base.now close (Ok job) result old new }
 {
     let Job { seen, work } = job;
     match work {
@@ -76,7 +76,7 @@ impl<'b, R, D: Desk<R>, L: Ledger> Clerk<R, D, Steps<L>> for Api<'b> {
 
     ghost service = { λ clerk. api clerk.base.now };
 
-    ghost stands = { λ desk visitor. D.stands desk visitor };
+    ghost stands = { λ begun desk visitor. D.stands begun desk visitor };
 
     fn answer(
         &self,

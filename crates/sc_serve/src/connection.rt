@@ -4,13 +4,16 @@ ghost use Rattle.sc_visit.specs.Visits.{Visitor};
 ghost use Rattle.sc_session.specs.Session.{Session};
 ghost use Rattle.sc_serve.specs.Service.{api};
 ghost use Rattle.sc_serve.specs.Desks.{IsAlone};
+ghost use Rattle.sc_serve.specs.Notices.{TellsOfLoads};
 
 use crate::answering::Api;
 use crate::desk::Desk;
 use crate::lone::LoneDesk;
+use crate::notifying::NotifyingPass;
 use sc_base::Text;
 use sc_desk::DeskPass;
-use sc_outside::{Sink, Source, Steps};
+use sc_notice::NoticePass;
+use sc_outside::{Gate, Sink, Source, Steps};
 use sc_route::Routes;
 use sc_session::{ConnEnd, give_up, serve};
 use std::alloc::Global;
@@ -31,7 +34,7 @@ fn serve_desk<R, D: Desk<R>, S: Source, K: Sink, L: Ledger>(
     requires name { blank.name ≡ L.name }
     requires parts { blank.parts ≡ L.parts }
     requires some { 0 < blank.parts }
-    ensures { (old : Visitor Entry) → D.stands desk.old old → (new : Visitor Entry) × D.stands desk.new new ×
+    ensures { (old : Visitor Entry) → D.stands desk.old desk.old old → (new : Visitor Entry) × D.stands desk.old desk.new new ×
         Session (api base.now)
         (record { left = S.left source.old; ended = S.ended source.old; faults = S.faults source.old; written = K.written sink.old; write_faults = K.faults sink.old; visitor = old })
         (record { left = S.left source.new; ended = S.ended source.new; faults = S.faults source.new; written = K.written sink.new; write_faults = K.faults sink.new; visitor = new })
@@ -53,21 +56,39 @@ fn serve_desk<R, D: Desk<R>, S: Source, K: Sink, L: Ledger>(
 }
 
 /// Serves one connection by turns of a pass at the desk of a catalogue, up to the first request that asks to close. The base
-/// is the address of the catalogue without a slash at its end. It waits for its turns, and answers outside of them.
-pub fn serve_connection<'d, R: Wait, S: Source, K: Sink>(
+/// is the address of the catalogue without a slash at its end. It waits for its turns, and answers outside of them. Each part
+/// that a load of the connection changed, and that is there after it, is told as a notice before the load's reply is written.
+/// The gate's point 1 is between each snapshot's turn and the answer by it.
+pub fn serve_connection<'p, 'd, 'q, 'n, 'g, R: Wait, S: Source, K: Sink, G: Gate>(
     rt: &R,
     alloc: Global,
-    pass: &mut DeskPass<'d>,
+    pass: &'p mut DeskPass<'d>,
+    notices: &'q mut NoticePass<'n>,
     base: &Text,
     source: &mut S,
     sink: &mut K,
+    gate: &'g mut G,
 ) -> ConnEnd
-    ensures { Session (api base.now)
+    ensures session { Session (api base.now)
         (record { left = S.left source.old; ended = S.ended source.old; faults = S.faults source.old; written = K.written sink.old; write_faults = K.faults sink.old; visitor = pass.old })
         (record { left = S.left source.new; ended = S.ended source.new; faults = S.faults source.new; written = K.written sink.new; write_faults = K.faults sink.new; visitor = pass.new })
         result }
+    ensures told { TellsOfLoads pass.old pass.new notices.old notices.new }
 {
-    serve_desk::<R, DeskPass<'d>, S, K, Brand>(rt, alloc, pass, base, source, sink, Blank::new(1))
+    let mut desk = NotifyingPass {
+        pass,
+        notices,
+        gate,
+    };
+    serve_desk::<R, NotifyingPass<'p, 'd, 'q, 'n, 'g, G>, S, K, Brand>(
+        rt,
+        alloc,
+        &mut desk,
+        base,
+        source,
+        sink,
+        Blank::new(1),
+    )
 }
 
 /// Serves one connection over a catalogue of its own, which has taken no load, by the number 1. It waits for nobody.

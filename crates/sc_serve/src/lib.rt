@@ -8,6 +8,7 @@ mod faults;
 pub mod laws;
 mod loading;
 mod lone;
+mod notifying;
 mod reading;
 
 pub use connection::{pipe, serve_connection};

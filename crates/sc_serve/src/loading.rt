@@ -47,13 +47,13 @@ fn try_load<R, D: Desk<R>>(
     close: bool,
 ) -> Result<Text, AllocError>
     requires { IsWellFormed load }
-    ensures { (base : List ℕ) (old : Visitor Entry) → D.stands desk.old old → (new : Visitor Entry) × D.stands desk.new new × Tries base close load result old new }
+    ensures { (base : List ℕ) (begun : D) (old : Visitor Entry) → D.stands begun desk.old old → (new : Visitor Entry) × D.stands begun desk.new new × Tries base close load result old new }
 {
     let made = makes(&load);
     let items = count_of(&load);
     let room = LoadRoom::new(alloc)?;
     match desk.publish(rt, alloc, load) {
-        Ok(published) => Ok(room.text(made, published.revision, items, close)),
+        Ok(revision) => Ok(room.text(made, revision, items, close)),
         Err(refused) => {
             let said = said_of_load(alloc, refused.fault)?;
             reply_text(alloc, said, refused.revision, close)
@@ -71,7 +71,7 @@ fn load_from<R, D: Desk<R>>(
     close: bool,
 ) -> Result<Text, AllocError>
     requires { IsWellFormed load }
-    ensures { (base : List ℕ) (old : Visitor Entry) → D.stands desk.old old → (new : Visitor Entry) × D.stands desk.new new ×
+    ensures { (base : List ℕ) (begun : D) (old : Visitor Entry) → D.stands begun desk.old old → (new : Visitor Entry) × D.stands begun desk.new new ×
         Handles base close (Ok (record { seen = Some stated; work = Of.Load load })) result old new }
 {
     let snapshot = desk.take_snapshot(rt, alloc)?;
@@ -93,7 +93,7 @@ pub fn answer_load<R, D: Desk<R>>(
     close: bool,
 ) -> Result<Text, AllocError>
     requires { IsWellFormed load }
-    ensures { (base : List ℕ) (old : Visitor Entry) → D.stands desk.old old → (new : Visitor Entry) × D.stands desk.new new ×
+    ensures { (base : List ℕ) (begun : D) (old : Visitor Entry) → D.stands begun desk.old old → (new : Visitor Entry) × D.stands begun desk.new new ×
         Handles base close (Ok (record { seen = seen; work = Of.Load load })) result old new }
 {
     match seen {

@@ -1,7 +1,7 @@
 ghost use Rattle.std.specs.Prelude.{◌≡◌, [], IfOk};
 
 use crate::desk::Desk;
-use sc_catalog::{Catalogue, Load, Published, Snapshot};
+use sc_catalog::{Catalogue, Load, Snapshot};
 use sc_desk::LoadRefused;
 use std::alloc::{AllocError, Global};
 
@@ -25,7 +25,7 @@ impl LoneDesk {
 impl Desk<()> for LoneDesk {
     ghost use Rattle.sc_serve.specs.Desks.{IsAlone};
 
-    ghost stands = { λ desk visitor. IsAlone desk.catalogue.entries visitor };
+    ghost stands = { λ _ desk visitor. IsAlone desk.catalogue.entries visitor };
 
     fn seen(&self) -> u64 {
         self.catalogue.revision()
@@ -35,10 +35,10 @@ impl Desk<()> for LoneDesk {
         self.catalogue.snapshot(alloc)
     }
 
-    fn publish(&mut self, _rt: &(), alloc: Global, load: Load) -> Result<Published, LoadRefused> {
+    fn publish(&mut self, _rt: &(), alloc: Global, load: Load) -> Result<u64, LoadRefused> {
         let revision = self.catalogue.revision();
         match self.catalogue.publish(alloc, 1, load) {
-            Ok(published) => Ok(published),
+            Ok(published) => Ok(published.revision),
             Err(fault) => Err(LoadRefused { fault, revision }),
         }
     }

@@ -241,7 +241,7 @@ fn answer_by_snapshot<R, D: Desk<R>, L: Ledger>(
 ) -> Result<Text, AllocError>
     requires read { is_load work.now ≡ false }
     requires looks { asks_of work.now seen ≡ Look }
-    ensures { (old : Visitor Entry) → D.stands desk.old old → (new : Visitor Entry) × D.stands desk.new new ×
+    ensures { (begun : D) (old : Visitor Entry) → D.stands begun desk.old old → (new : Visitor Entry) × D.stands begun desk.new new ×
         Handles base.now close (Ok (record { seen = seen; work = work.now })) result old new }
 {
     let snapshot = desk.take_snapshot(rt, alloc)?;
@@ -260,7 +260,7 @@ fn answer_unstated<R, D: Desk<R>, L: Ledger>(
     close: bool,
 ) -> Result<Text, AllocError>
     requires { is_load work.now ≡ false }
-    ensures { (old : Visitor Entry) → D.stands desk.old old → (new : Visitor Entry) × D.stands desk.new new ×
+    ensures { (begun : D) (old : Visitor Entry) → D.stands begun desk.old old → (new : Visitor Entry) × D.stands begun desk.new new ×
         Handles base.now close (Ok (record { seen = None; work = work.now })) result old new }
 {
     let fixed = fixed_text(alloc, base, work)?;
@@ -285,7 +285,7 @@ pub fn answer_read<R, D: Desk<R>, L: Ledger>(
     close: bool,
 ) -> Result<Text, AllocError>
     requires { is_load work.now ≡ false }
-    ensures { (old : Visitor Entry) → D.stands desk.old old → (new : Visitor Entry) × D.stands desk.new new ×
+    ensures { (begun : D) (old : Visitor Entry) → D.stands begun desk.old old → (new : Visitor Entry) × D.stands begun desk.new new ×
         Handles base.now close (Ok (record { seen = seen; work = work.now })) result old new }
 {
     match seen {

@@ -1,2 +1,6 @@
 pub mod Connections
+pub mod Lists
+pub mod Seats
+pub mod Sessions
 pub mod Workers
+pub mod Crossing

@@ -1,294 +1,336 @@
--- A row of workers, and what their cards show of the closed history.
-use Rattle.std.proofs.Common.{◌≡◌, ℕ, zero, suc, ◌+◌, ◌-◌, ◌<◌, inl, inr, Bool, true, false, ◌||◌, List, [], ◌∷◌, ◌++◌, length, get_or, sym, refl, ap, ap₂, ◌∙◌, subst, arith, length-append, append_assoc, map}
-use Rattle.std.proofs.lemmas.List.{length-map}
+-- All workers of a server, and what they show of the closed history and of the notices.
+use Rattle.std.proofs.Common.{◌≡◌, ℕ, zero, suc, ◌+◌, ◌-◌, ◌<◌, ◌≤◌, Bool, true, false, ◌||◌, eq-eqb, nat_lt, ltb-true, ltb-false, List, [], ◌∷◌, ◌++◌, length, get_or, sym, refl, ap, ap₂, ◌∙◌, subst, arith, length-append, map}
+use Rattle.std.specs.Prelude.{◌==◌, filter, replicate, slice_get, Option, None, Some}
 use Rattle.std.proofs.Math.ListN.{get_or-append}
-use Rattle.std.specs.List.{list_any}
-use Rattle.std.specs.declared.option.Option.{Option}
+use Rattle.std.proofs.lemmas.Grind.{flat_map-append}
+use Rattle.std.proofs.Math.Seq.{get_or-append_right}
+use Rattle.std.proofs.lemmas.List.{append-nil, get_or-append-add, length-map, map-append}
+use Rattle.std.proofs.lemmas.List.Elements.{All-head, All-tail}
+use Rattle.std.specs.List.{All, Any}
 use Rattle.sc_turn.specs.{TableId}
-use Rattle.sc_turn.specs.History.{HasNumbers, Closes}
-use Rattle.sc_turn.specs.Passes.{card_desk, card_number, card_seen, card_start, card_visits, pair_of, IsNew, AreNew}
+use Rattle.sc_turn.specs.History.{Closes, HasNumbers, Knows}
+use Rattle.sc_turn.specs.Passes.{card_desk, card_number, pair_of}
 use Rattle.sc_turn.specs.declared.booked.Booked.{Ghosts}
 use Rattle.sc_turn.specs.declared.pass.Card.{Card}
 use Rattle.sc_load.specs.declared.load.Load.{Load}
 use Rattle.sc_catalog.specs.declared.entry.Entry.{Entry}
 use Rattle.sc_catalog.specs.Entries.{by}
-use Rattle.sc_http.specs.declared.request.Request.{Request}
-use Rattle.sc_http.specs.declared.reply.Reply.{Reply}
-use Rattle.sc_visit.specs.Visits.{Visitor, IsSame}
-use Rattle.sc_session.specs.declared.ending.ConnEnd.{ConnEnd}
-use Rattle.sc_session.specs.declared.ending.ConnEnd.TheVariants as Conn
-use Rattle.sc_session.specs.declared.ask.Ask.{Ask}
-use Rattle.sc_session.specs.declared.ask.Ask.TheVariants as Asks
+use Rattle.sc_visit.specs.Visits.{Visitor}
+use Rattle.sc_notice.specs.declared.notice.Notice.TheVariants.{Stop}
+use Rattle.sc_notice.specs.Callers.{Queue, Caller, all_calls, told_by, told_in}
+use Rattle.sc_notice.specs.Callers as notices
 use Rattle.sc_session.specs.Service.{Service}
-use Rattle.sc_session.specs.Handling.{Publishes, Does, GivesUp, AreHandled}
-use Rattle.sc_session.specs.Session.{Place, AfterLast, Session}
-use Rattle.sc_server.specs.Listening.{place_of, AreServed, IsListened}
-use Rattle.sc_server.specs.Workers.{newcomer, seen_by, IsFresh, AreBound, AreParts, AreBack, AreWorked, IsServed}
+use Rattle.sc_serve.specs.Notices.{TellsOfLoads}
+use Rattle.sc_server.specs.Seats.{newcomer, AreSeated, AreCardsOf}
+use Rattle.sc_server.specs.Workers.{seen_by, turns_at_most, room, AreBack, IsStaffOf, seats_of, AreNoticed, HaveWorked, HasRun, IsServed}
+use Rattle.sc_server.specs.declared.seat.Seat.{Seat}
 use Rattle.sc_server.specs.declared.worker.Worker.{Worker}
+use Rattle.sc_server.specs.declared.staff.Staff.{Staff}
+use Rattle.sc_server.proofs.Lists.{all_back, all_front, all_mid, any_image, any_more, map_more, pick, at_map_or, images_kept, images_twice, same_images}
+use Rattle.sc_server.proofs.Seats.{kept, kept_as, tightened_kept, tightened_told, tightened_none, stopping_kept, stopping_none, stopping_told, cards_desk, cards_all, cards_many, callers_all}
+use Rattle.sc_server.proofs.Sessions.{served_same}
 
--- ---- a session keeps the pass
-
-same_pass : {E : Type 0} (v : Visitor E) → IsSame v v
-same_pass v = record { desk_is = refl; number_is = refl; start_is = refl }
-
-same_then : {E : Type 0} (u v w : Visitor E) → IsSame u v → IsSame v w → IsSame u w
-same_then u v w a b = record { desk_is = b.desk_is ∙ a.desk_is; number_is = b.number_is ∙ a.number_is; start_is = b.start_is ∙ a.start_is }
-
-same_as : {E : Type 0} (u v : Visitor E) → v ≡ u → IsSame u v
-same_as u v e = subst (IsSame u) (sym e) (same_pass u)
-
-module _ {E L J : Type 0} (service : Service E L J) where
-  published_same : (load : L) (accepted : Bool) (old new : Visitor E) → Publishes service load accepted old new → IsSame old new
-  published_same load true old new p = p.0.same
-  published_same load false old new p = p.same
-
-  does_same : (ask : Ask L) (accepted : Bool) (old new : Visitor E) → Does service ask accepted old new → IsSame old new
-  does_same Asks.Nothing accepted old new d = same_as old new d.1
-  does_same Asks.Look accepted old new d = d.1.same
-  does_same (Asks.Publish load) accepted old new d = published_same load accepted old new d
-  does_same (Asks.PublishFrom stated load) accepted old new d = elim d.2 [
-    | inl p ↦ same_then old d.0 new d.1.same (same_as d.0 new p.2)
-    | inr p ↦ same_then old d.0 new d.1.same (published_same load accepted d.0 new p.1)
-  ]
-
-  handled_same : (qs : List Request) (rs : List Reply) (old new : Visitor E) → AreHandled service qs rs old new → IsSame old new
-  handled_same [] [] old new h = same_as old new h
-  handled_same [] (a ∷ rs) old new h = absurd h
-  handled_same (q ∷ qs) [] old new h = absurd h
-  handled_same (q ∷ qs) (a ∷ rs) old new h = same_then old h.0 new (does_same (service.asks h.1.job) h.1.accepted old h.0 h.1.does) (handled_same qs rs h.0 new h.2)
-
-  gives_up_same : (old new : Visitor E) → GivesUp service old new → IsSame old new
-  gives_up_same old new (inl e) = same_as old new e
-  gives_up_same old new (inr (inl t)) = t.same
-  gives_up_same old new (inr (inr t)) = same_then old t.0 new t.1.same (same_then t.0 t.2.0 new t.2.1.same (same_as t.2.0 new t.2.2))
-
-  after_same : (end : ConnEnd) (mid new : Visitor E) → AfterLast service end mid new → IsSame mid new
-  after_same Conn.OutOfMemory mid new a = gives_up_same mid new a
-  after_same Conn.Ended mid new a = same_as mid new a
-  after_same (Conn.Cut n) mid new a = same_as mid new a
-  after_same (Conn.BadHead fault) mid new a = same_as mid new a
-  after_same (Conn.BadLength fault) mid new a = same_as mid new a
-  after_same Conn.ReadFault mid new a = same_as mid new a
-  after_same Conn.WriteFault mid new a = same_as mid new a
-  after_same Conn.Spent mid new a = same_as mid new a
-
-  session_same : (old new : Place E) (end : ConnEnd) → Session service old new end → IsSame old.visitor new.visitor
-  session_same old new end s = same_then old.visitor s.mid new.visitor (handled_same s.requests s.answers old.visitor s.mid s.handled) (after_same end s.mid new.visitor s.after_last)
-
-module _ {In Out E L J : Type 0} (left : In → Option (List ℕ)) (ended : In → Bool) (faults : In → ℕ) (written : Out → Option (List ℕ)) (write_faults : Out → ℕ) (service : Service E L J) where
-  served_same : (cs ds : List (In × Out)) (old new : Visitor E) → AreServed left ended faults written write_faults service cs ds old new → IsSame old new
-  served_same [] [] old new s = same_as old new s
-  served_same [] (d ∷ ds) old new s = absurd s
-  served_same (c ∷ cs) [] old new s = absurd s
-  served_same (c ∷ cs) (d ∷ ds) old new s =
-      same_then old s.0 new (session_same service (place_of left ended faults written write_faults service c old) (place_of left ended faults written write_faults service d s.0) s.1 s.2) (served_same cs ds s.0 new s.3)
-
--- ---- lists by their places
-
-module _ {A : Type 0} where
-  pub at_middle : (xs ys : List A) (x d : A) → get_or (xs ++ x ∷ ys) (length xs) d ≡ x
-  at_middle [] ys x d = refl
-  at_middle (a ∷ xs) ys x d = at_middle xs ys x d
-
-  pub at_next : (all xs ys zs : List A) (x d : A) → all ≡ xs ++ zs → zs ≡ x ∷ ys → (get_or all (length xs) d ≡ x) × (length xs < length all)
-  at_next all xs ys zs x d e f =
-      let is : all ≡ xs ++ x ∷ ys = e ∙ ap (λ l. xs ++ l) f in
-      let lt : length xs < length (xs ++ x ∷ ys) = omega (arith, length-append xs (x ∷ ys)) in
-      (ap (λ l. get_or l (length xs) d) is ∙ at_middle xs ys x d, subst (λ l. length xs < length l) (sym is) lt)
-
-  pub snoc_each : (P : ℕ → A → Type 0) (xs : List A) (x : A) → ((k : ℕ) (d : A) → k < length xs → P k (get_or xs k d)) → P (length xs) x
-      → (k : ℕ) (d : A) → k < length xs + 1 → P k (get_or (xs ++ x ∷ []) k d)
-  snoc_each P [] x h p zero d lt = p
-  snoc_each P [] x h p (suc k) d lt = absurd (omega arith)
-  snoc_each P (a ∷ xs) x h p zero d lt = h zero d (omega arith)
-  snoc_each P (a ∷ xs) x h p (suc k) d lt = snoc_each (λ j. P (suc j)) xs x (λ j e m. h (suc j) e (omega arith)) p k d (omega arith)
-
-  -- one more was counted, and joins the list
-  pub count_step : (xs : List A) (x : A) (n n' : ℕ) → n' ≡ n + 1 → n ≡ length xs → n' ≡ length (xs ++ x ∷ [])
-  count_step xs x n n' more is = more ∙ ap (λ k. k + 1) is ∙ sym (length-append xs (x ∷ []))
-
-  pub split_step : (all ys zs zs' : List A) (x : A) → all ≡ ys ++ zs' → zs' ≡ x ∷ zs → all ≡ (ys ++ x ∷ []) ++ zs
-  split_step all ys zs zs' x split next = split ∙ ap (λ l. ys ++ l) next ∙ sym (append_assoc ys (x ∷ []) zs)
-
--- an image has at a place the image of what stands there
-at_map_or : {A B : Type 0} (f : A → B) (xs : List A) (k : ℕ) (d : A) (e : B) → k < length xs → get_or (map f xs) k e ≡ f (get_or xs k d)
-at_map_or f [] k d e lt = absurd (omega arith)
-at_map_or f (x ∷ xs) zero d e lt = refl
-at_map_or f (x ∷ xs) (suc k) d e lt = at_map_or f xs k d e (omega arith)
-
--- two lists have one image where they have it at each place
-same_images : {A B C : Type 0} (f : A → C) (g : B → C) (xs : List A) (ys : List B) → length ys ≡ length xs
-    → ((k : ℕ) (x : A) (y : B) → k < length xs → g (get_or ys k y) ≡ f (get_or xs k x)) → map g ys ≡ map f xs
-same_images f g [] [] l e = refl
-same_images f g [] (y ∷ ys) l e = absurd (omega (arith, l))
-same_images f g (x ∷ xs) [] l e = absurd (omega (arith, l))
-same_images f g (x ∷ xs) (y ∷ ys) l e = ap₂ (λ z zs. z ∷ zs) (e zero x y (omega arith)) (same_images f g xs ys (omega (arith, l)) (λ k a b lt. e (suc k) a b (omega arith)))
-
-images_twice : {A B C : Type 0} (f : A → B) (g : B → C) (xs : List A) → map (λ x. g (f x)) xs ≡ map g (map f xs)
-images_twice f g [] = refl
-images_twice f g (x ∷ xs) = ap (λ ys. g (f x) ∷ ys) (images_twice f g xs)
-
-any_image : {A : Type 0} (f : A → Bool) (xs : List A) → list_any f xs ≡ list_any (λ b. b) (map f xs)
-any_image f [] = refl
-any_image f (x ∷ xs) = ap (λ b. f x || b) (any_image f xs)
-
-any_more : {A : Type 0} (f : A → Bool) (xs : List A) (x : A) → list_any f (xs ++ x ∷ []) ≡ (list_any f xs || f x)
-any_more f [] x = or_false (f x)
-  where
-    or_false : (b : Bool) → (b || false) ≡ b
-    or_false true = refl
-    or_false false = refl
-any_more f (y ∷ xs) x = ap (λ b. f y || b) (any_more f xs x) ∙ or_again (f y) (list_any f xs) (f x)
-  where
-    or_again : (a b c : Bool) → (a || (b || c)) ≡ ((a || b) || c)
-    or_again true b c = refl
-    or_again false b c = refl
-
--- which of two conditions is known tells of both
-pub either_first : (a b : Bool) → a ≡ true → a ≡ (a || b)
-either_first true b e = refl
-either_first false b e = absurd cc
-
-pub either_second : (a b : Bool) → a ≡ false → b ≡ (a || b)
-either_second true b e = absurd cc
-either_second false b e = refl
-
-map_more : {A B : Type 0} (f : A → B) (xs : List A) (x : A) → map f (xs ++ x ∷ []) ≡ map f xs ++ f x ∷ []
-map_more f [] x = refl
-map_more f (y ∷ xs) x = ap (λ ys. f y ∷ ys) (map_more f xs x)
-
--- ---- the row at its beginning and at its end
-
--- the next card is one of the desk
-pub next_desk : {V : Type 0} {g : Ghosts V Entry} (desk : TableId) (m : ℕ) (all done next rest : List (Card V Entry g)) (card : Card V Entry g)
-    → AreNew desk [] m all → all ≡ done ++ next → next ≡ card ∷ rest → card_desk card ≡ desk
-next_desk desk m all done next rest card new split is =
-    let at = at_next all done rest next card card split is in
-    let count = new.count in
-    let lt = at.1 in
-    (subst (IsNew desk (length done + 1) []) at.0 (new.each (length done) card (omega arith))).of
+-- ---- the listeners at the end
 
 module _ {N : Type 0} where
-  pub none_bound : (desk : TableId) → AreBound {N = N} desk [] []
-  none_bound desk = record { count = refl; each = λ k n w lt. absurd (omega (arith, lt)) }
+  pub none_back : AreBack {N = N} [] [] false
+  none_back = record { nets_are = refl; failed_is = refl }
 
-  bound_more : (desk : TableId) (nets : List N) (ws : List (Worker N)) (net : N) (w : Worker N) → AreBound desk nets ws → IsFresh desk (length nets + 1) net w → AreBound desk (nets ++ net ∷ []) (ws ++ w ∷ [])
-  bound_more desk nets ws net w b f =
-      let count = b.count in
-      let Q : ℕ → N → Type 0 = λ k n. (d : Worker N) → IsFresh desk (k + 1) n (get_or (ws ++ w ∷ []) k d) in
-      let last : Q (length nets) net = λ d. subst (λ k. IsFresh desk (length nets + 1) net (get_or (ws ++ w ∷ []) k d)) count (subst (IsFresh desk (length nets + 1) net) (sym (at_middle ws [] w d)) f) in
-      let first = λ (k : ℕ) (n : N) (lt : k < length nets) (d : Worker N). subst (IsFresh desk (k + 1) (get_or nets k n)) (sym (get_or-append ws (w ∷ []) d k (omega arith))) (b.each k n d lt) in
-      record {
-        count = length-append ws (w ∷ []) ∙ ap (λ n. n + 1) count ∙ sym (length-append nets (net ∷ []));
-        each = λ k n d lt. snoc_each Q nets net first last k n (omega (arith, length-append nets (net ∷ []), lt)) d;
-      }
+  pub back_step : (ws : List (Worker N)) (w : Worker N) (nets nets' : List N) (net : N) (failed failed' is_failed : Bool)
+      → AreBack ws nets failed → nets' ≡ nets ++ net ∷ [] → failed' ≡ (failed || is_failed) → net ≡ w.net → is_failed ≡ w.failed → AreBack (ws ++ w ∷ []) nets' failed'
+  back_step ws w nets nets' net failed failed' is_failed back nets_more more net_is failed_is = record {
+    nets_are = nets_more ∙ ap₂ (λ xs x. xs ++ x ∷ []) back.nets_are net_is ∙ sym (map_more (λ (v : Worker N). v.net) ws w);
+    failed_is = more ∙ ap₂ (λ a b. a || b) back.failed_is failed_is ∙ sym (any_more (λ (v : Worker N). v.failed) ws w);
+  }
 
-  -- the next card is bound to the next listener
-  pub bound_step : {V : Type 0} {g : Ghosts V Entry} (desk : TableId) (m : ℕ) (all done next rest : List (Card V Entry g)) (card : Card V Entry g) (nets : List N) (ws ws' : List (Worker N)) (net : N) (w : Worker N) (v : Visitor Entry)
-      → AreNew desk [] m all → all ≡ done ++ next → next ≡ card ∷ rest → length done ≡ length nets → AreBound desk nets ws → ws' ≡ ws ++ w ∷ [] → w ≡ record { net = net; pass = v; failed = false }
-      → v.desk ≡ card_desk card → v.number ≡ card_number card → v.start ≡ card_start card → v.seen ≡ card_seen card → v.visits ≡ card_visits card → AreBound desk (nets ++ net ∷ []) ws'
-  bound_step desk m all done next rest card nets ws ws' net w v new split is many bound items w_is d n st se vi =
-      let at = at_next all done rest next card card split is in
-      let count = new.count in
-      let lt = at.1 in
-      let here = subst (IsNew desk (length done + 1) []) at.0 (new.each (length done) card (omega arith)) in
-      let numbered : v.number ≡ length nets + 1 = n ∙ here.numbered ∙ ap (λ k. k + 1) many in
-      let pass : v ≡ newcomer desk (length nets + 1) =
-      λ i. record { desk = (d ∙ here.of) i; number = numbered i; start = (st ∙ here.begun) i; seen = (se ∙ here.saw) i; visits = (vi ∙ here.unvisited) i } in
-      let fresh : IsFresh desk (length nets + 1) net w = record { net_is = ap (λ (u : Worker N). u.net) w_is; pass_is = ap (λ (u : Worker N). u.pass) w_is ∙ pass; unfailed = ap (λ (u : Worker N). u.failed) w_is } in
-      subst (AreBound desk (nets ++ net ∷ [])) (sym items) (bound_more desk nets ws net w bound fresh)
+-- ---- a history without the cards that own none of it
 
-  pub none_back : {V : Type 0} {g : Ghosts V Entry} → AreBack {N = N} {V = V} {g = g} [] [] [] false
-  none_back = record { cards_count = refl; cards_of = λ k w c lt. absurd (omega (arith, lt)); nets_are = refl; failed_is = refl }
+no_own : {E : Type 0} (p : E → Bool) (xs : List E) (i : ℕ) (e : E) → slice_get xs i ≡ Some e → p e ≡ true → filter p xs ≡ [] → ⊥
+no_own p [] i e at is none = let bad : None ≡ Some e = at in cc
+no_own p (x ∷ xs) zero e at is none =
+    let same : x ≡ e = ap (λ o. option_or o x) at in
+    head_kept p x xs (subst (λ y. p y ≡ true) (sym same) is) none
+  where
+    option_or : {E : Type 0} → Option E → E → E
+    option_or None d = d
+    option_or (Some y) d = y
 
-  pub back_step : {V : Type 0} {g : Ghosts V Entry} (ws : List (Worker N)) (w : Worker N) (cards cards' : List (Card V Entry g)) (card : Card V Entry g) (nets nets' : List N) (net : N) (failed failed' is_failed : Bool)
-      → AreBack ws cards nets failed → cards' ≡ cards ++ card ∷ [] → nets' ≡ nets ++ net ∷ [] → failed' ≡ (failed || is_failed) → AreParts w card net is_failed
-      → AreBack (ws ++ w ∷ []) cards' nets' failed'
-  back_step {V} {g} ws w cards cards' card nets nets' net failed failed' is_failed back items nets_more more is =
-      let count = back.cards_count in
-      let C : Type 0 = Card V Entry g in
-      let Same : Worker N → C → Type 0 = λ v c. (card_desk c ≡ v.pass.desk) × (card_number c ≡ v.pass.number) × (card_seen c ≡ v.pass.seen) in
-      let Q : ℕ → Worker N → Type 0 = λ k v. (d : C) → Same v (get_or (cards ++ card ∷ []) k d) in
-      let last : Q (length ws) w = λ d. subst (λ k. Same w (get_or (cards ++ card ∷ []) k d)) count (subst (Same w) (sym (at_middle cards [] card d)) (is.of, is.numbered, is.saw)) in
-      let first = λ (k : ℕ) (v : Worker N) (lt : k < length ws) (d : C). subst (Same (get_or ws k v)) (sym (get_or-append cards (card ∷ []) d k (omega arith))) (back.cards_of k v d lt) in
-      record {
-        cards_count = ap length items ∙ length-append cards (card ∷ []) ∙ ap (λ n. n + 1) count ∙ sym (length-append ws (w ∷ []));
-        cards_of = λ k v d lt. subst (λ l. Same (get_or (ws ++ w ∷ []) k v) (get_or l k d)) (sym items) (snoc_each Q ws w first last k v (omega (arith, length-append ws (w ∷ []), lt)) d);
-        nets_are = nets_more ∙ ap₂ (λ xs x. xs ++ x ∷ []) back.nets_are is.net_is ∙ sym (map_more (λ (v : Worker N). v.net) ws w);
-        failed_is = more ∙ ap₂ (λ a b. a || b) back.failed_is is.failed_is ∙ sym (any_more (λ (v : Worker N). v.failed) ws w);
-      }
+    head_kept : {E : Type 0} (p : E → Bool) (x : E) (xs : List E) → p x ≡ true → filter p (x ∷ xs) ≡ [] → ⊥
+    head_kept p x xs is none = let kept : filter p (x ∷ xs) ≡ x ∷ filter p xs = rw is refl in absurd (omega (arith, ap length (sym kept ∙ none)))
+no_own p (x ∷ xs) (suc i) e at is none = no_own p xs i e at is (tail_none p x xs (p x) refl none)
+  where
+    tail_none : {E : Type 0} (p : E → Bool) (x : E) (xs : List E) (b : Bool) → p x ≡ b → filter p (x ∷ xs) ≡ [] → filter p xs ≡ []
+    tail_none p x xs true is none = let kept : filter p (x ∷ xs) ≡ x ∷ filter p xs = rw is refl in absurd (omega (arith, ap length (sym kept ∙ none)))
+    tail_none p x xs false is none = let kept : filter p (x ∷ xs) ≡ filter p xs = rw is refl in sym kept ∙ none
 
-pick : {A : Type 0} (xs : List A) (k : ℕ) → k < length xs → A
-pick [] k lt = absurd (omega (arith, lt))
-pick (x ∷ xs) k lt = x
+-- of the cards, those of the front own all entries where the others own none
+pub closes_front : (xs ys : List (ℕ × List Entry)) (history : List Entry) → Closes by [] (xs ++ ys) history → All (λ (c : ℕ × List Entry). filter (λ e. by e == c.0) c.1 ≡ []) ys
+    → Closes by [] xs history
+closes_front xs ys history closes none = record {
+  later = closes.later;
+  whole = closes.whole;
+  known = all_front (λ (c : ℕ × List Entry). Knows by c.0 c.1 history) xs ys closes.known;
+  owned = λ i e le at. let any = closes.owned i e le at in fronted i e any.0 any.1 any.2 any.3 any.4;
+}
+  where
+    fronted : (i : ℕ) (e : Entry) (k : ℕ) (c : ℕ × List Entry) → k < length (xs ++ ys) → get_or (xs ++ ys) k c ≡ c → (by e ≡ c.0) × (slice_get c.1 i ≡ Some e)
+        → Any (λ (c : ℕ × List Entry). (by e ≡ c.0) × (slice_get c.1 i ≡ Some e)) xs
+    fronted i e k c lt at is = by_side i e k c lt at is (nat_lt k (length xs)) refl
+      where
+        by_side : (i : ℕ) (e : Entry) (k : ℕ) (c : ℕ × List Entry) → k < length (xs ++ ys) → get_or (xs ++ ys) k c ≡ c → (by e ≡ c.0) × (slice_get c.1 i ≡ Some e) → (b : Bool) → nat_lt k (length xs) ≡ b
+            → Any (λ (c : ℕ × List Entry). (by e ≡ c.0) × (slice_get c.1 i ≡ Some e)) xs
+        by_side i e k c lt at is true here = let less : k < length xs = ltb-true k (length xs) here in (k, c, less, sym (get_or-append xs ys c k less) ∙ at, is)
+        by_side i e k c lt at is false here =
+            let more : length xs ≤ k = ltb-false k (length xs) here in
+            let j : ℕ = k - length xs in
+            let there : j < length ys = omega (arith, length-append xs ys, lt, more) in
+            let found : get_or ys j c ≡ c = sym (get_or-append_right xs ys k c more) ∙ at in
+            let empty : filter (λ e. by e == c.0) c.1 ≡ [] = subst (λ (d : ℕ × List Entry). filter (λ e. by e == d.0) d.1 ≡ []) found (none j c there) in
+            absurd (no_own (λ e. by e == c.0) c.1 i e is.1 (eq-eqb (by e) c.0 is.0) empty)
+
+-- what a seat's pass has seen
+abbrev seat_saw : Seat → ℕ × List Entry
+seat_saw s = seen_by s.pass
 
 module _ {In Out N J : Type 0} (left : In → Option (List ℕ)) (ended : In → Bool) (faults : In → ℕ) (written : Out → Option (List ℕ)) (write_faults : Out → ℕ) (service : Service Entry Load J) (net_left net_back : N → Option (List (In × Out))) (net_faults : N → ℕ)
-    {V : Type 0} {g : Ghosts V Entry} (desk : TableId) (most : ℕ) (nets back : List N) (before after : List (Worker N)) (cards : List (Card V Entry g)) (failed : Bool)
-    (bound : AreBound desk nets before) (len : length after ≡ length before)
-    (worked : AreWorked left ended faults written write_faults service net_left net_back net_faults most before after)
-    (parts : AreBack after cards back failed) where
-  abbrev Listened : ℕ → Bool → N → N → Visitor Entry → Visitor Entry → Type 0
-  Listened = IsListened left ended faults written write_faults service net_left net_back net_faults
+    (most count : ℕ) (nets back : List N) (seats : List Seat) (before after : Staff N) (failed : Bool)
+    (staffed : IsStaffOf nets seats count before)
+    (worked : HaveWorked left ended faults written write_faults service net_left net_back net_faults most before after)
+    (backs : AreBack after.serving.workers.items back failed) where
+  abbrev old : List (Worker N)
+  old = before.serving.workers.items
 
-  -- the pass of the worker at place k is still of the desk and has its number
-  pass_at : (k : ℕ) (w : Worker N) → k < length nets → ((get_or after k w).pass.desk ≡ desk) × ((get_or after k w).pass.number ≡ k + 1)
-  pass_at k w lt =
-      let count = bound.count in
-      let n = pick nets k lt in
-      let here : k < length before = omega arith in
-      let fresh = bound.each k n w lt in
-      let did = worked k w here in
-      let same = served_same left ended faults written write_faults service did.given did.back (get_or before k w).pass (get_or after k w).pass did.served in
-      (same.desk_is ∙ ap (λ (v : Visitor Entry). v.desk) fresh.pass_is, same.number_is ∙ ap (λ (v : Visitor Entry). v.number) fresh.pass_is)
+  abbrev new : List (Worker N)
+  new = after.serving.workers.items
 
-  pub cards_desk : (k : ℕ) (c : Card V Entry g) → k < length cards → card_desk (get_or cards k c) ≡ desk
-  cards_desk k c lt =
-      let count = bound.count in
-      let more = parts.cards_count in
-      let here : k < length after = omega arith in
-      let there : k < length nets = omega arith in
-      let w = pick after k here in
-      (parts.cards_of k w c here).0 ∙ (pass_at k w there).0
+  abbrev seat_of : Worker N → Seat
+  seat_of w = w.seat
 
-  pub cards_all : (m : ℕ) → m ≡ length nets → HasNumbers m (map card_number cards)
-  cards_all m is x low high =
-      let count = bound.count in
-      let more = parts.cards_count in
-      let k : ℕ = x - 1 in
-      let there : k < length nets = omega arith in
-      let here : k < length after = omega arith in
-      let lt : k < length cards = omega arith in
-      let w = pick after k here in
-      let c = pick cards k lt in
-      let num : card_number (get_or cards k c) ≡ k + 1 = (parts.cards_of k w c here).1 ∙ (pass_at k w there).1 in
-      let k_is : k + 1 ≡ x = omega arith in
-      let long = length-map cards card_number in
-      (k, omega arith, at_map_or card_number cards k c x lt ∙ num ∙ k_is)
+  worker_kept : (k : ℕ) (w : Worker N) → k < length old → kept (get_or new k w).seat ≡ kept (get_or old k w).seat
+  worker_kept k w lt =
+      let did = worked.served.worked.each k w lt in
+      kept_as (get_or old k w).seat (get_or new k w).seat
+      (served_same left ended faults written write_faults service did.listened.given did.listened.back (get_or old k w).seat.pass (get_or new k w).seat.pass did.listened.served) did.told.of_is did.told.shares_are
 
-  pairs_are : map pair_of cards ≡ map seen_by (map (λ (w : Worker N). w.pass) after)
-  pairs_are =
-      same_images (λ (w : Worker N). seen_by w.pass) pair_of after cards parts.cards_count (λ k w c lt. let p = parts.cards_of k w c lt in ap₂ (λ a b. (a, b)) p.1 p.2)
-      ∙ images_twice (λ (w : Worker N). w.pass) seen_by after
+  split_seats : {A : Type 0} (f : Seat → A) (staff : Staff N)
+      → map f (seats_of staff) ≡ map (λ (w : Worker N). f w.seat) staff.serving.workers.items ++ (map f staff.tighteners.items ++ f staff.serving.stopper ∷ [])
+  split_seats f staff =
+      map-append f (map seat_of staff.serving.workers.items) (staff.tighteners.items ++ staff.serving.stopper ∷ [])
+      ∙ ap₂ (λ x y. x ++ y) (sym (images_twice seat_of f staff.serving.workers.items)) (map-append f staff.tighteners.items (staff.serving.stopper ∷ []))
 
-  pub served : (base history : List Entry) → base ≡ [] → Closes by base (map pair_of cards) history
-      → IsServed left ended faults written write_faults service net_left net_back net_faults most nets back failed history
-  served base history none ends =
-      let count = bound.count in
-      let long : length (map (λ (w : Worker N). w.net) after) ≡ length after = length-map after (λ (w : Worker N). w.net) in
-      record {
-        desk = desk;
-        ends = map (λ (w : Worker N). w.pass) after;
-        flags = map (λ (w : Worker N). w.failed) after;
-        count = (ap length parts.nets_are ∙ long ∙ len ∙ count, length-map after (λ (w : Worker N). w.pass) ∙ len ∙ count, length-map after (λ (w : Worker N). w.failed) ∙ len ∙ count);
-        each = λ k n v f lt.
-            let here : k < length before = omega arith in
-            let there : k < length after = omega arith in
-            let w = pick after k there in
-            let fresh = bound.each k n w lt in
-            let flag = at_map_or (λ (u : Worker N). u.failed) after k w f there in
-            let back_is : get_or back k n ≡ (get_or after k w).net = ap (λ (l : List N). get_or l k n) parts.nets_are ∙ at_map_or (λ (u : Worker N). u.net) after k w n there in
-            let end = at_map_or (λ (u : Worker N). u.pass) after k w v there in
-            rw (flag, back_is, end, sym fresh.net_is, sym fresh.pass_is) (worked k w here);
-        failed_is = parts.failed_is ∙ any_image (λ (w : Worker N). w.failed) after;
-        closes = subst (λ l. Closes by [] l history) pairs_are (subst (λ b. Closes by b (map pair_of cards) history) none ends);
-      }
+  -- all keep their seats
+  pub seats_kept : map kept (seats_of after) ≡ map kept seats
+  seats_kept =
+      let workers = images_kept (λ (w : Worker N). kept w.seat) old new worked.served.worked.count worker_kept in
+      let tighteners = images_kept kept before.tighteners.items after.tighteners.items worked.tightened.count
+      (λ k s lt. tightened_kept turns_at_most (get_or before.tighteners.items k s) (get_or after.tighteners.items k s) (worked.tightened.each k s lt)) in
+      let stopper = stopping_kept room (length before.tighteners.items) before.serving.stopper after.serving.stopper worked.served.stopped in
+      split_seats kept after ∙ ap₂ (λ x y. x ++ y) workers (ap₂ (λ x y. x ++ y ∷ []) tighteners stopper) ∙ sym (split_seats kept before) ∙ ap (map kept) staffed.seats_are
+
+  module _ {V : Type 0} {g : Ghosts V Entry} (desk : TableId) (queue : Queue) (dealt callers : List Caller) (cards : List (Card V Entry g)) (seated : AreSeated desk dealt seats) (are : AreCardsOf (seats_of after) cards callers) where
+    many : length old ≡ length nets
+    many = sym (length-map old (λ (w : Worker N). w.net)) ∙ ap length staffed.nets_are
+
+    -- the seats of the workers come first
+    front_seat : (k : ℕ) (w : Worker N) → k < length old → (get_or old k w).seat ≡ get_or seats k w.seat
+    front_seat k w lt =
+        let rest = before.tighteners.items ++ before.serving.stopper ∷ [] in
+        let here : k < length (map seat_of old) = omega (arith, length-map old seat_of, lt) in
+        sym (at_map_or seat_of old k w w.seat lt) ∙ sym (get_or-append (map seat_of old) rest w.seat k here) ∙ ap (λ l. get_or l k w.seat) staffed.seats_are
+
+    all_seats : length seats ≡ length old + (length before.tighteners.items + 1)
+    all_seats =
+        ap length (sym staffed.seats_are) ∙ length-append (map seat_of old) (before.tighteners.items ++ before.serving.stopper ∷ [])
+        ∙ ap₂ (λ a b. a + b) (length-map old seat_of) (length-append before.tighteners.items (before.serving.stopper ∷ []))
+
+    worker_new : (k : ℕ) (w : Worker N) → k < length old → (get_or old k w).seat.pass ≡ newcomer desk (k + 1)
+    worker_new k w lt = ap (λ (s : Seat). s.pass) (front_seat k w lt) ∙ seated.passes k w.seat (omega (arith, all_seats, lt))
+
+    -- the passes of the tighteners and of the stopper began at nothing
+    behind_new : (k : ℕ) (s : Seat) → k < length before.tighteners.items + 1 → (get_or (before.tighteners.items ++ before.serving.stopper ∷ []) k s).pass.seen ≡ []
+    behind_new k s lt =
+        let rest = before.tighteners.items ++ before.serving.stopper ∷ [] in
+        let at : ℕ = length (map seat_of old) + k in
+        let there : at < length seats = omega (arith, all_seats, length-map old seat_of, lt) in
+        let found : get_or seats at s ≡ get_or rest k s = ap (λ l. get_or l at s) (sym staffed.seats_are) ∙ get_or-append-add (map seat_of old) rest k s in
+        ap (λ (x : Seat). x.pass.seen) (sym found) ∙ ap (λ (v : Visitor Entry). v.seen) (seated.passes at s there)
+
+    -- no entry is of the tighteners or of the stopper
+    behind_none : All (λ (c : ℕ × List Entry). filter (λ e. by e == c.0) c.1 ≡ []) (map seat_saw (after.tighteners.items ++ after.serving.stopper ∷ []))
+    behind_none k c lt =
+        let ts = before.tighteners.items in
+        let us = after.tighteners.items in
+        let a = before.serving.stopper in
+        let z = after.serving.stopper in
+        let same : length us ≡ length ts = worked.tightened.count in
+        let many : k < length (us ++ z ∷ []) = omega (arith, length-map (us ++ z ∷ []) seat_saw, lt) in
+        let at : get_or (map seat_saw (us ++ z ∷ [])) k c ≡ seat_saw (get_or (us ++ z ∷ []) k z) = at_map_or seat_saw (us ++ z ∷ []) k z c many in
+        subst (λ (x : ℕ × List Entry). filter (λ e. by e == x.0) x.1 ≡ []) (sym at) (by_side k (nat_lt k (length us)) refl (omega (arith, length-append us (z ∷ []), many)))
+      where
+        by_side : (k : ℕ) (b : Bool) → nat_lt k (length after.tighteners.items) ≡ b → k < length after.tighteners.items + 1
+            → filter (λ e. by e == (get_or (after.tighteners.items ++ after.serving.stopper ∷ []) k after.serving.stopper).pass.number) (get_or (after.tighteners.items ++ after.serving.stopper ∷ []) k after.serving.stopper).pass.seen ≡ []
+        by_side k true here lt =
+            let ts = before.tighteners.items in
+            let us = after.tighteners.items in
+            let a = before.serving.stopper in
+            let z = after.serving.stopper in
+            let less : k < length us = ltb-true k (length us) here in
+            let there : k < length ts = omega (arith, worked.tightened.count, less) in
+            let empty : (get_or ts k z).pass.seen ≡ [] = ap (λ (x : Seat). x.pass.seen) (sym (get_or-append ts (a ∷ []) z k there)) ∙ behind_new k z (omega (arith, there)) in
+            let is = tightened_none turns_at_most (get_or ts k z) (get_or us k z) (worked.tightened.each k z there) empty in
+            subst (λ (x : Seat). filter (λ e. by e == x.pass.number) x.pass.seen ≡ []) (sym (get_or-append us (z ∷ []) z k less)) is
+        by_side k false here lt =
+            let ts = before.tighteners.items in
+            let us = after.tighteners.items in
+            let a = before.serving.stopper in
+            let z = after.serving.stopper in
+            let more : length us ≤ k = ltb-false k (length us) here in
+            let same : length us ≡ length ts = worked.tightened.count in
+            let k_is : k ≡ length us + 0 = omega (arith, more, lt) in
+            let k_then : length ts + 0 ≡ length us + 0 = omega (arith, same) in
+            let first : get_or (ts ++ a ∷ []) (length us + 0) z ≡ a = ap (λ j. get_or (ts ++ a ∷ []) j z) (sym k_then) ∙ get_or-append-add ts (a ∷ []) 0 z in
+            let last : get_or (us ++ z ∷ []) k z ≡ z = ap (λ j. get_or (us ++ z ∷ []) j z) k_is ∙ get_or-append-add us (z ∷ []) 0 z in
+            let empty : a.pass.seen ≡ [] = ap (λ (x : Seat). x.pass.seen) (sym first) ∙ behind_new (length us + 0) z (omega (arith, same)) in
+            let is = stopping_none room (length ts) a z worked.served.stopped empty in
+            subst (λ (x : Seat). filter (λ e. by e == x.pass.number) x.pass.seen ≡ []) (sym last) is
+
+    pairs_are : map pair_of cards ≡ map seen_by (map (λ (w : Worker N). w.seat.pass) new) ++ map seat_saw (after.tighteners.items ++ after.serving.stopper ∷ [])
+    pairs_are =
+        same_images seat_saw pair_of (seats_of after) cards are.count (λ k s c lt. let p = are.each k s c lt in ap₂ (λ a b. (a, b)) p.numbered p.saw)
+        ∙ map-append seat_saw (map seat_of new) (after.tighteners.items ++ after.serving.stopper ∷ [])
+        ∙ ap (λ l. l ++ map seat_saw (after.tighteners.items ++ after.serving.stopper ∷ [])) (sym (images_twice seat_of seat_saw new) ∙ images_twice (λ (w : Worker N). w.seat.pass) seen_by new)
+
+    -- ---- the notices
+
+    module _ (fresh : All (λ (c : Caller). c.calls ≡ []) dealt) where
+      abbrev notices_before : List Caller
+      notices_before = map (λ (w : Worker N). w.seat.notices) old
+
+      abbrev notices_after : List Caller
+      notices_after = map (λ (w : Worker N). w.seat.notices) new
+
+      dealt_are : notices_before ++ (map (λ (s : Seat). s.notices) before.tighteners.items ++ before.serving.stopper.notices ∷ []) ≡ dealt
+      dealt_are = sym (split_seats (λ s. s.notices) before) ∙ ap (map (λ (s : Seat). s.notices)) staffed.seats_are ∙ seated.notices_are
+
+      all_fresh : All (λ (c : Caller). c.calls ≡ []) (notices_before ++ (map (λ (s : Seat). s.notices) before.tighteners.items ++ before.serving.stopper.notices ∷ []))
+      all_fresh = subst (All (λ (c : Caller). c.calls ≡ [])) (sym dealt_are) fresh
+
+      behind_fresh : All (λ (c : Caller). c.calls ≡ []) (map (λ (s : Seat). s.notices) before.tighteners.items ++ before.serving.stopper.notices ∷ [])
+      behind_fresh = all_back (λ (c : Caller). c.calls ≡ []) notices_before (map (λ (s : Seat). s.notices) before.tighteners.items ++ before.serving.stopper.notices ∷ []) all_fresh
+
+      -- the tighteners told nothing
+      tighteners_told : (ts us : List Seat) → length us ≡ length ts → ((k : ℕ) (s : Seat) → k < length ts → told_in (get_or us k s).notices.calls ≡ told_in (get_or ts k s).notices.calls)
+          → All (λ (c : Caller). c.calls ≡ []) (map (λ (s : Seat). s.notices) ts) → told_in (all_calls (map (λ (s : Seat). s.notices) us)) ≡ []
+      tighteners_told [] [] l e f = refl
+      tighteners_told [] (u ∷ us) l e f = absurd (omega (arith, l))
+      tighteners_told (t ∷ ts) [] l e f = absurd (omega (arith, l))
+      tighteners_told (t ∷ ts) (u ∷ us) l e f =
+          let P : Caller → Type 0 = λ c. c.calls ≡ [] in
+          flat_map-append told_by u.notices.calls (all_calls (map (λ (s : Seat). s.notices) us))
+          ∙ ap₂ (λ x y. x ++ y) (e zero t (omega arith) ∙ ap told_in (All-head P t.notices (map (λ (s : Seat). s.notices) ts) f))
+          (tighteners_told ts us (omega (arith, l)) (λ k s lt. e (suc k) s (omega arith)) (All-tail P t.notices (map (λ (s : Seat). s.notices) ts) f))
+
+      stops : told_in (all_calls (map (λ (s : Seat). s.notices) (after.tighteners.items ++ after.serving.stopper ∷ []))) ≡ replicate count Stop
+      stops =
+          let us = after.tighteners.items in
+          let z = after.serving.stopper in
+          let P : Caller → Type 0 = λ c. c.calls ≡ [] in
+          let ts = map (λ (s : Seat). s.notices) before.tighteners.items in
+          let stopped : told_in z.notices.calls ≡ replicate (length before.tighteners.items) Stop =
+          stopping_told room (length before.tighteners.items) before.serving.stopper z worked.served.stopped
+          ∙ ap (λ l. told_in l ++ replicate (length before.tighteners.items) Stop) (all_mid P ts [] before.serving.stopper.notices behind_fresh) in
+          let silent = tighteners_told before.tighteners.items us worked.tightened.count
+          (λ k s lt. tightened_told turns_at_most (get_or before.tighteners.items k s) (get_or us k s) (worked.tightened.each k s lt)) (all_front P ts (before.serving.stopper.notices ∷ []) behind_fresh) in
+          ap (λ l. told_in (all_calls l)) (map-append (λ (s : Seat). s.notices) us (z ∷ [])) ∙ ap told_in (flat_map-append (λ (c : Caller). c.calls) (map (λ (s : Seat). s.notices) us) (z.notices ∷ []))
+          ∙ flat_map-append told_by (all_calls (map (λ (s : Seat). s.notices) us)) (z.notices.calls ++ []) ∙ ap₂ (λ x y. x ++ y) silent (ap told_in (append-nil z.notices.calls) ∙ stopped)
+          ∙ ap (λ n. replicate n Stop) staffed.tighteners_are
+
+      callers_are : callers ≡ notices_after ++ map (λ (s : Seat). s.notices) (after.tighteners.items ++ after.serving.stopper ∷ [])
+      callers_are =
+          are.notices_are ∙ map-append (λ (s : Seat). s.notices) (map seat_of new) (after.tighteners.items ++ after.serving.stopper ∷ [])
+          ∙ ap (λ l. l ++ map (λ (s : Seat). s.notices) (after.tighteners.items ++ after.serving.stopper ∷ [])) (sym (images_twice seat_of (λ (s : Seat). s.notices) new))
+
+      noticed : (unheard : ℕ) → notices.Closes callers unheard → AreNoticed desk count (map (λ (w : Worker N). w.seat.pass) new) unheard
+      noticed unheard closes =
+          let ends : List (Visitor Entry) = map (λ (w : Worker N). w.seat.pass) new in
+          let long : length new ≡ length old = worked.served.worked.count in
+          record {
+            before = notices_before;
+            after = notices_after;
+            fresh = all_front (λ (c : Caller). c.calls ≡ []) notices_before (map (λ (s : Seat). s.notices) before.tighteners.items ++ before.serving.stopper.notices ∷ []) all_fresh;
+            many = (
+              length-map old (λ (w : Worker N). w.seat.notices) ∙ sym long ∙ sym (length-map new (λ (w : Worker N). w.seat.pass)),
+              length-map new (λ (w : Worker N). w.seat.notices) ∙ sym (length-map new (λ (w : Worker N). w.seat.pass)),
+            );
+            each = λ k v a b lt.
+                let there : k < length new = omega (arith, length-map new (λ (w : Worker N). w.seat.pass), lt) in
+                let here : k < length old = omega (arith, long, there) in
+                let w = pick new k there in
+                let end : get_or ends k v ≡ (get_or new k w).seat.pass = at_map_or (λ (u : Worker N). u.seat.pass) new k w v there in
+                let first : get_or notices_before k a ≡ (get_or old k w).seat.notices = at_map_or (λ (u : Worker N). u.seat.notices) old k w a here in
+                let last : get_or notices_after k b ≡ (get_or new k w).seat.notices = at_map_or (λ (u : Worker N). u.seat.notices) new k w b there in
+                subst (λ x. TellsOfLoads (newcomer desk (k + 1)) x (get_or notices_before k a) (get_or notices_after k b)) (sym end)
+                (subst (λ x. TellsOfLoads (newcomer desk (k + 1)) (get_or new k w).seat.pass x (get_or notices_after k b)) (sym first)
+                (subst (λ x. TellsOfLoads (newcomer desk (k + 1)) (get_or new k w).seat.pass (get_or old k w).seat.notices x) (sym last)
+                (subst (λ x. TellsOfLoads x (get_or new k w).seat.pass (get_or old k w).seat.notices (get_or new k w).seat.notices) (worker_new k w here) (worked.served.worked.each k w here).told)));
+            begun = before.tighteners.items;
+            tighteners = after.tighteners.items;
+            tightened = worked.tightened;
+            tighteners_are = worked.tightened.count ∙ staffed.tighteners_are;
+            stopper = after.serving.stopper;
+            stops = stops;
+            closes = subst (λ l. notices.Closes l unheard) callers_are closes;
+          }
+
+      pub served : (base history : List Entry) (unheard : ℕ) → base ≡ [] → Closes by base (map pair_of cards) history → notices.Closes callers unheard
+          → IsServed left ended faults written write_faults service net_left net_back net_faults most count nets back failed unheard history
+      served base history unheard none ends heard =
+          let long : length new ≡ length old = worked.served.worked.count in
+          record {
+            desk = desk;
+            ends = map (λ (w : Worker N). w.seat.pass) new;
+            flags = map (λ (w : Worker N). w.failed) new;
+            many = (
+              ap length backs.nets_are ∙ length-map new (λ (w : Worker N). w.net) ∙ long ∙ many,
+              length-map new (λ (w : Worker N). w.seat.pass) ∙ long ∙ many,
+              length-map new (λ (w : Worker N). w.failed) ∙ long ∙ many,
+            );
+            each = λ k n v f lt.
+                let here : k < length old = omega (arith, many, lt) in
+                let there : k < length new = omega (arith, long, here) in
+                let w = pick new k there in
+                let net : get_or nets k n ≡ (get_or old k w).net = ap (λ (l : List N). get_or l k n) (sym staffed.nets_are) ∙ at_map_or (λ (u : Worker N). u.net) old k w n here in
+                let flag = at_map_or (λ (u : Worker N). u.failed) new k w f there in
+                let back_is : get_or back k n ≡ (get_or new k w).net = ap (λ (l : List N). get_or l k n) backs.nets_are ∙ at_map_or (λ (u : Worker N). u.net) new k w n there in
+                let end = at_map_or (λ (u : Worker N). u.seat.pass) new k w v there in
+                rw (flag, net, back_is, end, sym (worker_new k w here)) (worked.served.worked.each k w here).listened;
+            failed_is = backs.failed_is ∙ any_image (λ (w : Worker N). w.failed) new;
+            closes = closes_front (map seen_by (map (λ (w : Worker N). w.seat.pass) new)) (map seat_saw (after.tighteners.items ++ after.serving.stopper ∷ [])) history
+                (subst (λ l. Closes by [] l history) pairs_are (subst (λ b. Closes by b (map pair_of cards) history) none ends)) behind_none;
+            noticed = noticed unheard heard;
+          }
+
+-- ---- a run, by the seats that were given out
+
+module _ {In Out N J : Type 0} (left : In → Option (List ℕ)) (ended : In → Bool) (faults : In → ℕ) (written : Out → Option (List ℕ)) (write_faults : Out → ℕ) (service : Service Entry Load J) (net_left net_back : N → Option (List (In × Out))) (net_faults : N → ℕ)
+    {V : Type 0} {g : Ghosts V Entry} (most count : ℕ) (seats : List Seat) (nets back : List N) (failed : Bool) (cards : List (Card V Entry g)) (callers dealt : List Caller) (desk : TableId) (queue : Queue)
+    (run : HasRun left ended faults written write_faults service net_left net_back net_faults most count seats nets back failed cards callers) (seated : AreSeated desk dealt seats) where
+  same : map kept (seats_of run.after) ≡ map kept seats
+  same = seats_kept left ended faults written write_faults service net_left net_back net_faults most count nets back seats run.before run.after failed run.staffed run.worked run.backs
+
+  pub run_desk : All (λ card. card_desk card ≡ desk) cards
+  run_desk = cards_desk desk queue seats (seats_of run.after) dealt callers cards seated same run.are run.after.serving.stopper
+
+  pub run_numbers : (m : ℕ) → m ≡ length dealt → HasNumbers m (map card_number cards)
+  run_numbers m is =
+      let many = cards_many desk queue seats (seats_of run.after) dealt callers cards seated same run.are in
+      cards_all desk queue seats (seats_of run.after) dealt callers cards seated same run.are run.after.serving.stopper m (is ∙ sym many)
+
+  pub run_callers : (n : ℕ) (made : List Caller) → dealt ≡ made → notices.AreNew queue n made → notices.AreAll queue callers
+  run_callers n made is new = callers_all desk queue seats (seats_of run.after) dealt callers cards seated same run.are n (subst (notices.AreNew queue n) (sym is) new)
+
+  pub run_served : (n : ℕ) (made : List Caller) (base history : List Entry) (unheard : ℕ) → dealt ≡ made → notices.AreNew queue n made → base ≡ [] → Closes by base (map pair_of cards) history → notices.Closes callers unheard
+      → IsServed left ended faults written write_faults service net_left net_back net_faults most count nets back failed unheard history
+  run_served n made base history unheard is new none ends heard =
+      served left ended faults written write_faults service net_left net_back net_faults most count nets back seats run.before run.after failed run.staffed run.worked run.backs
+      desk queue dealt callers cards seated run.are (λ k d lt. ((subst (notices.AreNew queue n) (sym is) new).each k d lt).1) base history unheard none ends heard

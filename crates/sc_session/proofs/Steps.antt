@@ -53,8 +53,8 @@ module _ {E L J : Type 0} (service : Service E L J) where
   abbrev at : Option (List ℕ) → Bool → ℕ → Option (List ℕ) → ℕ → Visitor E → Place E
   at left ended faults written write_faults visitor = record { left = left; ended = ended; faults = faults; written = written; write_faults = write_faults; visitor = visitor }
 
-  pub begun : (first : Place E) → SoFar service first first nothing_held
-  begun first = record {
+  pub nothing_yet : (first : Place E) → SoFar service first first nothing_held
+  nothing_yet first = record {
     front = [];
     requests = [];
     answers = [];

@@ -22,8 +22,8 @@ pub trait Clerk<R, P, T> {
     /// The service that it does.
     ghost service: { Self → Service Self.Entry Self.Load Self.Job };
 
-    /// This is seen of the pass.
-    ghost stands: { P → Visitor Self.Entry → Type 0 };
+    /// This is seen of the pass, which was as the first of the two when the connection began.
+    ghost stands: { P → P → Visitor Self.Entry → Type 0 };
 
     /// Answers a request with the whole text of its reply. Where memory is wanting the history has no entry more.
     fn answer(
@@ -34,11 +34,11 @@ pub trait Clerk<R, P, T> {
         tools: &mut T,
         request: &Request,
     ) -> Result<Text, AllocError>
-        ensures { (old : Visitor Self.Entry) → stands pass.old old → (new : Visitor Self.Entry) × stands pass.new new × Answers (service self.now) result request.now old new };
+        ensures { (begun : P) (old : Visitor Self.Entry) → stands begun pass.old old → (new : Visitor Self.Entry) × stands begun pass.new new × Answers (service self.now) result request.now old new };
 
     /// The text of the reply to an end of the requests, where there is one.
     fn refuse(&self, alloc: Global, pass: &P, end: &HttpEnd) -> Result<Option<Text>, AllocError>
-        ensures { (now : Visitor Self.Entry) → stands pass.now now → IfOk result (λ text. text ≡ option_map reply_bytes ((service self.now).refusal end.now (length now.seen))) };
+        ensures { (begun : P) (now : Visitor Self.Entry) → stands begun pass.now now → IfOk result (λ text. text ≡ option_map reply_bytes ((service self.now).refusal end.now (length now.seen))) };
 
     /// An entry has its number.
     ghost numbered: { (clerk : Self) (number : ℕ) (load : Self.Load) → (service clerk).by ((service clerk).entry number load) ≡ number };

@@ -43,7 +43,7 @@ fn refuse_end<R, P, T, C: Clerk<R, P, T>, K: Sink>(
     sink: &mut K,
     end: HttpEnd,
 ) -> ConnEnd
-    ensures refused { (now : Visitor C.Entry) → C.stands pass.now now →
+    ensures refused { (begun : P) (now : Visitor C.Entry) → C.stands begun pass.now now →
         Refused result end ((C.service clerk.now).refusal end (length now.seen)) (K.written sink.old) (K.written sink.new) (K.faults sink.old) (K.faults sink.new) }
     ensures later { K.faults sink.old ≤ K.faults sink.new }
 {
@@ -67,7 +67,7 @@ fn answer_one<R, P, T, C: Clerk<R, P, T>, K: Sink>(
     sink: &mut K,
     request: &Request,
 ) -> Option<ConnEnd>
-    ensures answers { (old : Visitor C.Entry) → C.stands pass.old old → (new : Visitor C.Entry) × C.stands pass.new new ×
+    ensures answers { (begun : P) (old : Visitor C.Entry) → C.stands begun pass.old old → (new : Visitor C.Entry) × C.stands begun pass.new new ×
         AnswersOne (C.service clerk.now) result request.now old new (K.written sink.old) (K.written sink.new) (K.faults sink.old) (K.faults sink.new) }
     ensures later { K.faults sink.old ≤ K.faults sink.new }
 {
@@ -99,11 +99,11 @@ fn serve_next<R, P, T, C: Clerk<R, P, T>, S: Source, K: Sink>(
 ) -> Option<ConnEnd>
     ensures few { intake.new.taken ≤ 2 ^ 40 }
     ensures fewer { IfNone result (length intake.new.bytes + intake.old.taken < intake.new.taken + length intake.old.bytes) }
-    ensures goes { (first : Place C.Entry) (mid : Visitor C.Entry) → C.stands pass.old mid →
+    ensures goes { (begun : P) (first : Place C.Entry) (mid : Visitor C.Entry) → C.stands begun pass.old mid →
         SoFar (C.service clerk.now) first
         (record { left = S.left source.old; ended = S.ended source.old; faults = S.faults source.old; written = K.written sink.old; write_faults = K.faults sink.old; visitor = mid })
         intake.old →
-        (last : Visitor C.Entry) × C.stands pass.new last ×
+        (last : Visitor C.Entry) × C.stands begun pass.new last ×
         Goes (C.service clerk.now) first
         (record { left = S.left source.new; ended = S.ended source.new; faults = S.faults source.new; written = K.written sink.new; write_faults = K.faults sink.new; visitor = last })
         intake.new result }
@@ -132,11 +132,11 @@ fn serve_on<R, P, T, C: Clerk<R, P, T>, S: Source, K: Sink>(
     sink: &mut K,
 ) -> ConnEnd
     requires { intake.old ≡ nothing_held }
-    ensures { (first : Place C.Entry) (mid : Visitor C.Entry) → C.stands pass.old mid →
+    ensures { (begun : P) (first : Place C.Entry) (mid : Visitor C.Entry) → C.stands begun pass.old mid →
         SoFar (C.service clerk.now) first
         (record { left = S.left source.old; ended = S.ended source.old; faults = S.faults source.old; written = K.written sink.old; write_faults = K.faults sink.old; visitor = mid })
         intake.old →
-        (last : Visitor C.Entry) × C.stands pass.new last ×
+        (last : Visitor C.Entry) × C.stands begun pass.new last ×
         Session (C.service clerk.now) first
         (record { left = S.left source.new; ended = S.ended source.new; faults = S.faults source.new; written = K.written sink.new; write_faults = K.faults sink.new; visitor = last })
         result }
@@ -161,7 +161,7 @@ pub fn serve<R, P, T, C: Clerk<R, P, T>, S: Source, K: Sink>(
     source: &mut S,
     sink: &mut K,
 ) -> ConnEnd
-    ensures { (old : Visitor C.Entry) → C.stands pass.old old → (new : Visitor C.Entry) × C.stands pass.new new ×
+    ensures { (begun : P) (old : Visitor C.Entry) → C.stands begun pass.old old → (new : Visitor C.Entry) × C.stands begun pass.new new ×
         Session (C.service clerk.now)
         (record { left = S.left source.old; ended = S.ended source.old; faults = S.faults source.old; written = K.written sink.old; write_faults = K.faults sink.old; visitor = old })
         (record { left = S.left source.new; ended = S.ended source.new; faults = S.faults source.new; written = K.written sink.new; write_faults = K.faults sink.new; visitor = new })

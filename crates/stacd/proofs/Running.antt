@@ -11,7 +11,7 @@ use Rattle.stacd.specs.Program.{Input, Output, CanRun, Runs, RunsCommand}
 pub can_run : (words : List (List ℕ)) (command : Command) (listeners : ℕ) → Asks words command → ((serving : Serving) → AreServeWords words serving → listeners ≡ serving.workers) → CanRun listeners command
 can_run words (Ask.Page limit) listeners a as_many = let p = a.2.positive in let l = a.2.limit in (omega (arith, p, l), omega (arith, l))
 can_run words (Ask.Pipe base) listeners a as_many = tt
-can_run words (Ask.Serve serving) listeners a as_many = (as_many serving a, a.workers_are.above, a.workers_are.below)
+can_run words (Ask.Serve serving) listeners a as_many = (as_many serving a, a.workers_are.above, a.workers_are.below, a.tighteners_are.below)
 
 module _ {In Out N : Type 0} (left : In → Option (List ℕ)) (ended : In → Bool) (faults : In → ℕ) (written : Out → Option (List ℕ)) (write_faults : Out → ℕ) (net_left net_back : N → Option (List (In × Out))) (net_faults : N → ℕ)
     (input input' : Input) (output output' errors errors' : Output) (nets nets' : List N) where

@@ -1,5 +1,5 @@
 -- What a run of the server does.
-use Rattle.std.specs.Prelude.{◌≡◌, ◌≢◌, ℕ, ◌<◌, ◌^◌, ◌-◌, min, Bool, true, false, ◌⊎◌, List, [], ◌∷◌, ◌++◌, length, slice_index_or, codes, decimal}
+use Rattle.std.specs.Prelude.{◌≡◌, ℕ, ◌<◌, ◌^◌, ◌-◌, min, Bool, true, false, List, [], ◌∷◌, ◌++◌, length, slice_index_or, codes, decimal}
 use Rattle.std.specs.declared.option.Option.{Option}
 use Rattle.std.specs.Io.KnownBytes.{Appends, Keeps}
 use Rattle.sc_outside.specs.Causes.{Rose}
@@ -43,16 +43,18 @@ pub record HasFailed {N : Type 0} (net_faults : N → ℕ) (nets back : List N) 
   pub rose : (n : N) → Rose (net_faults (slice_index_or nets place n)) (net_faults (slice_index_or back place n))
 
 module _ {In Out N : Type 0} (left : In → Option (List ℕ)) (ended : In → Bool) (faults : In → ℕ) (written : Out → Option (List ℕ)) (write_faults : Out → ℕ) (net_left net_back : N → Option (List (In × Out))) (net_faults : N → ℕ) where
-  -- the listeners were served over one history
-  pub record HasServed (base : List ℕ) (most : ℕ) (nets back : List N) (failed : Bool) (history : List Entry) : Type 0 where
-    pub served : IsServed left ended faults written write_faults (api base) net_left net_back net_faults most nets back failed history
+  -- the listeners were served over one history, beside so many tighteners; so many notices of parts were left unheard
+  pub record HasServed (base : List ℕ) (most count : ℕ) (nets back : List N) (failed : Bool) (history : List Entry) : Type 0 where
+    pub unheard : ℕ
+    pub served : IsServed left ended faults written write_faults (api base) net_left net_back net_faults most count nets back failed unheard history
 
   -- how the run ends, and what it leaves of the output
-  abbrev pub Serves : ServeEnd → List ℕ → ℕ → List N → List N → Option (List ℕ) → Option (List ℕ) → Type 0
-  Serves Done base most nets back old new = (history : List Entry) × (line : List ℕ) × HasServed base most nets back false history × IsLineOf history line × Appends old new line
-  Serves ListenFault base most nets back old new = (history : List Entry) × (line : List ℕ) × HasServed base most nets back true history × IsLineOf history line × Appends old new line
-  Serves WriteFault base most nets back old new = (history : List Entry) × (line : List ℕ) × (failed : Bool) × HasServed base most nets back failed history × IsLineOf history line × AppendsFront old new line
-  Serves OutOfMemory base most nets back old new = Keeps old new
+  abbrev pub Serves : ServeEnd → List ℕ → ℕ → ℕ → List N → List N → Option (List ℕ) → Option (List ℕ) → Type 0
+  Serves Done base most count nets back old new = (history : List Entry) × (line : List ℕ) × HasServed base most count nets back false history × IsLineOf history line × Appends old new line
+  Serves ListenFault base most count nets back old new = (history : List Entry) × (line : List ℕ) × HasServed base most count nets back true history × IsLineOf history line × Appends old new line
+  Serves WriteFault base most count nets back old new =
+      (history : List Entry) × (line : List ℕ) × (failed : Bool) × HasServed base most count nets back failed history × IsLineOf history line × AppendsFront old new line
+  Serves OutOfMemory base most count nets back old new = Keeps old new
 
 abbrev pub status_of_serving : ServeEnd → ℕ
 status_of_serving Done = 0

@@ -94,7 +94,8 @@ pub fn status_of_end(end: ServeEnd) -> u8
     }
 }
 
-/// Serves the listeners over one new catalogue, each by a worker of its own, and writes the line of its history at the end.
+/// Serves the listeners over one new catalogue, each by a worker of its own, beside so many workers that tighten bounds, and
+/// writes the line of its history at the end.
 /// After want of memory the listeners may be gone.
 pub fn serve<R: Threads + Wait + Sync, K: Sink, L: Listen + Send + Drop>(
     rt: &R,
@@ -108,20 +109,29 @@ where
     L::Out: Send,
     requires workers { length nets.old ≡ serving.workers }
     requires some { (1 ≤ serving.workers) × (serving.workers ≤ 8) }
-    ensures ran { Serves L.In.left L.In.ended L.In.faults L.Out.written L.Out.faults L.left L.handed_back L.faults result (base_of serving.port) serving.connections nets.old nets.new (K.written output.old) (K.written output.new) }
+    requires few { serving.tighteners ≤ 8 }
+    ensures ran { Serves L.In.left L.In.ended L.In.faults L.Out.written L.Out.faults L.left L.handed_back L.faults result (base_of serving.port) serving.connections serving.tighteners nets.old nets.new (K.written output.old) (K.written output.new) }
     ensures write { result ≡ ServeEnd.WriteFault → Rose (K.faults output.old) (K.faults output.new) }
 {
     let Ok(base) = base_at(alloc, serving.port) else {
         return ServeEnd::OutOfMemory;
     };
     let listeners = mem::replace(nets, Seq::new(alloc));
-    match serve_all(rt, alloc, &base, listeners, serving.connections) {
+    match serve_all(
+        rt,
+        alloc,
+        &base,
+        listeners,
+        serving.tighteners,
+        serving.connections,
+    ) {
         Err(_) => ServeEnd::OutOfMemory,
         Ok(
             Served {
                 catalogue,
                 nets: back,
                 listen_failed,
+                unheard: _,
             },
         ) => {
             *nets = back;

@@ -1,7 +1,7 @@
 use Rattle.std.proofs.Common.{[], inl, refl, subst, sym}
 use Rattle.sc_http.specs.Intake.{nothing_held}
 use Rattle.sc_session.proofs.Known.{consumes_none}
-use Rattle.sc_session.proofs.Steps.{begun, ends_wanting}
+use Rattle.sc_session.proofs.Steps.{nothing_yet, ends_wanting}
 use Rattle.sc_serve.specs.Desks.{IsAlone}
 use Rattle.sc_serve.specs.Service.{api}
 use Rattle.sc_serve.proofs.connection.pipe.Goals as goal
@@ -9,7 +9,7 @@ use Rattle.sc_serve.proofs.connection.pipe.Goals as goal
 pub returns-in-Err : goal.returns-in-Err
 returns-in-Err g c old alone =
     let service = api c.args.base.now in
-    (old, alone.own, rw c.give_up.ensures.result (ends_wanting service _ _ _ nothing_held (begun service _) [] (consumes_none _) (inl refl) c.give_up.ensures.wrote))
+    (old, alone.own, rw c.give_up.ensures.result (ends_wanting service _ _ _ nothing_held (nothing_yet service _) [] (consumes_none _) (inl refl) c.give_up.ensures.wrote))
 
 pub returns-in-Ok : goal.returns-in-Ok
 returns-in-Ok g c old alone =

@@ -1,11 +1,11 @@
 use Rattle.std.proofs.Common.{[], inl, refl}
 use Rattle.sc_http.specs.Intake.{nothing_held}
 use Rattle.sc_session.proofs.Known.{consumes_none}
-use Rattle.sc_session.proofs.Steps.{begun, ends_wanting}
+use Rattle.sc_session.proofs.Steps.{nothing_yet, ends_wanting}
 use Rattle.sc_serve.specs.Service.{api}
 use Rattle.sc_serve.proofs.connection.serve_desk.Goals as goal
 
 pub returns-in-Err : goal.returns-in-Err
 returns-in-Err g c old stands =
     let service = api c.args.base.now in
-    (old, stands, rw c.give_up.ensures.result (ends_wanting service _ _ _ nothing_held (begun service _) [] (consumes_none _) (inl refl) c.give_up.ensures.wrote))
+    (old, stands, rw c.give_up.ensures.result (ends_wanting service _ _ _ nothing_held (nothing_yet service _) [] (consumes_none _) (inl refl) c.give_up.ensures.wrote))

@@ -5,8 +5,8 @@ use Rattle.sc_serve.proofs.Replying.{tried}
 use Rattle.sc_serve.proofs.loading.answer_load.Goals as goal
 
 pub returns-in-None : goal.returns-in-None
-returns-in-None g c base old stands =
-    let y = c.try_load.ensures base old stands in (
+returns-in-None g c base begun old stands =
+    let y = c.try_load.ensures base begun old stands in (
       y.0,
       y.1,
       subst (λ s. Handles base c.args.close (Ok (record { seen = s; work = Of.Load c.args.load })) c.try_load.result old y.0) (sym c.in-None.is)
@@ -14,6 +14,6 @@ returns-in-None g c base old stands =
     )
 
 pub returns-in-Some : goal.returns-in-Some
-returns-in-Some g c base old stands =
-    let y = c.load_from.ensures base old stands in
+returns-in-Some g c base begun old stands =
+    let y = c.load_from.ensures base begun old stands in
     (y.0, y.1, subst (λ s. Handles base c.args.close (Ok (record { seen = s; work = Of.Load c.args.load })) c.load_from.result old y.0) (sym c.in-Some.is) y.2)

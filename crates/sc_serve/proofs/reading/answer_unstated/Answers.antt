@@ -4,15 +4,15 @@ use Rattle.sc_serve.proofs.Replying.{fixed_said, looks, said_text}
 use Rattle.sc_serve.proofs.reading.answer_unstated.Goals as goal
 
 pub returns-in_err-fixed : goal.returns-in_err-fixed
-returns-in_err-fixed g c old stands =
+returns-in_err-fixed g c begun old stands =
     let p = err_from_is_err_and c.from_residual.result c.from_residual.ensures.1 in
     rw p.1 (old, stands, inl refl)
 
 pub returns-in-Some : goal.returns-in-Some
-returns-in-Some g c old stands = (
+returns-in-Some g c begun old stands = (
   old,
   stands,
-  fixed_said c.args.base.now c.args.close c.args.work.now old c.in-Some.text c.seen.result c.reply_text.result (sym c.in-Some.is ∙ c.in_ok-fixed.ensures) (c.seen.ensures old stands)
+  fixed_said c.args.base.now c.args.close c.args.work.now old c.in-Some.text c.seen.result c.reply_text.result (sym c.in-Some.is ∙ c.in_ok-fixed.ensures) (c.seen.ensures begun old stands)
       (IfOk-weaker c.reply_text.result _ _ (λ text t. t ∙ ap (λ said. said_text said c.seen.result c.args.close) c.of-said.ensures) c.reply_text.ensures),
 )
 

@@ -8,11 +8,11 @@ abbrev pub invariant-loop : goal.invariant-loop
 invariant-loop g l = record {
   few : l.intake.taken ≤ 2 ^ 40;
   fewer : l.counter + length l.intake.bytes ≤ l.intake.taken;
-  so_far : (first : Place g.row.C-Entry.Denot) (mid : Visitor g.row.C-Entry.Denot) → g.C.Clerk.stands l.fn.pass mid →
+  so_far : (begun : g.row.P.Denot) (first : Place g.row.C-Entry.Denot) (mid : Visitor g.row.C-Entry.Denot) → g.C.Clerk.stands begun l.fn.pass mid →
       SoFar (g.C.Clerk.service l.fn.clerk) first
       (record { left = g.S.Source.left l.fn.source; ended = g.S.Source.ended l.fn.source; faults = g.S.Source.faults l.fn.source; written = g.K.Sink.written l.fn.sink; write_faults = g.K.Sink.faults l.fn.sink; visitor = mid })
       l.fn.intake →
-      (last : Visitor g.row.C-Entry.Denot) × g.C.Clerk.stands l.pass last ×
+      (last : Visitor g.row.C-Entry.Denot) × g.C.Clerk.stands begun l.pass last ×
       SoFar (g.C.Clerk.service l.fn.clerk) first
       (record { left = g.S.Source.left l.source; ended = g.S.Source.ended l.source; faults = g.S.Source.faults l.source; written = g.K.Sink.written l.sink; write_faults = g.K.Sink.faults l.sink; visitor = last })
       l.intake;

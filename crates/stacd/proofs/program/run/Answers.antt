@@ -13,4 +13,4 @@ pub returns-in-Ok-clause-write : goal.returns-in-Ok-clause-write
 returns-in-Ok-clause-write g c e = output_failed _ c.pipe-end.result _ _ _ _ c.pipe-end.ensures (sym c.status_of_end.ensures ∙ e)
 
 pub returns-in-Serve-clause-listen : goal.returns-in-Serve-clause-listen
-returns-in-Serve-clause-listen g c e = listener_failed _ _ _ _ _ _ _ _ c.serve-end.result _ _ _ _ _ _ c.serve-end.ensures.ran (sym c.status_of_end-in-Serve.ensures ∙ e)
+returns-in-Serve-clause-listen g c e = listener_failed _ _ _ _ _ _ _ _ c.serve-end.result _ _ _ _ _ _ _ c.serve-end.ensures.ran (sym c.status_of_end-in-Serve.ensures ∙ e)

@@ -1,5 +1,0 @@
-use Rattle.std.proofs.Common.{sym, ap, ◌∙◌, length}
-use Rattle.sc_serve.proofs.desk.DeskPassDesk.seen.Goals as goal
-
-pub returns : goal.returns
-returns g c now stands = c.seen.ensures ∙ ap (λ v. length v.seen) (sym stands)
