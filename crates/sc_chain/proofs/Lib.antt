@@ -9,3 +9,9 @@ pub mod Bodies
 pub mod Fitting
 pub mod Requests
 pub mod Addresses
+pub mod Joining
+pub mod Chunking
+pub mod Dividing
+pub mod Arranging
+pub mod Ranges
+pub mod Divided

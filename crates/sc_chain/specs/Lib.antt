@@ -1,2 +1,4 @@
 pub mod Chain
+pub mod Joining
+pub mod Chunks
 pub mod Next

@@ -1,5 +1,5 @@
 //! What follows from the definitions alone. Each function's clause is the law: its body is empty, or cites other laws.
-ghost use Rattle.std.specs.Prelude.{◌≡◌, ℕ, ◌+◌, ◌≤◌, All, List, [], length, filter, Option, Some, Result, Ok};
+ghost use Rattle.std.specs.Prelude.{◌≡◌, ℕ, ◌+◌, ◌≤◌, true, All, Contains, List, [], length, filter, Option, Some, Result, Ok};
 ghost use Rattle.form_urlencoded.specs.Form.{extend_pairs, parse};
 ghost use Rattle.sc_json.specs.declared.tree.Json.{Json};
 ghost use Rattle.sc_json.specs.declared.tree.Member.{Member};
@@ -11,12 +11,15 @@ ghost use Rattle.sc_token.specs.Token.{token_of};
 ghost use Rattle.sc_token.specs.Fits.{FitsSort};
 ghost use Rattle.sc_expr.specs.declared.select.Pair.{Pair};
 ghost use Rattle.sc_expr.specs.Query.{Asked};
+ghost use Rattle.sc_history.specs.Part.{Part};
 ghost use Rattle.sc_page.specs.Linked.{next_pairs};
 ghost use Rattle.sc_page.specs.Search.{is_asked, IsPage};
 ghost use Rattle.sc_query.specs.declared.fault.QueryFault.{QueryFault};
 ghost use Rattle.sc_query.specs.Given.{Parameters, of_pairs};
 ghost use Rattle.sc_query.specs.Query.{QueryOf, QueryOfBody};
 ghost use Rattle.sc_chain.specs.Chain.{behind, IsAll, IsPageOf, IsChain, joined};
+ghost use Rattle.sc_walk.specs.Walk.{is_candidate, is_opened};
+ghost use Rattle.sc_chain.specs.Chunks.{AreChunks, IsCovered, IsOpenedByChunks};
 ghost use Rattle.sc_chain.specs.Next.{next_request, IsNextBody, HasShortName, IsInUtf8, PairsFollowed, BodiesFollowed};
 
 use sc_cqlread::laws::one_answer;
@@ -112,3 +115,11 @@ pub fn bodies_join()
 {
     one_query();
 }
+
+/// What a search opens lies within what the older, wider rule of the walk opens: for parts whose bounds cover their items,
+/// every part that is opened stands in a chunk of candidates that this rule opens too. The candidates have such chunks.
+pub fn opened_within_chunks()
+    ensures within { (asked : Asked) (parts : List Part) (chunks : List (List Part)) (part : Part) → All IsCovered parts → AreChunks asked.sort (filter (is_candidate asked) parts) chunks → Contains parts part →
+        is_opened asked parts part ≡ true → IsOpenedByChunks asked chunks part }
+    ensures chunks { (asked : Asked) (parts : List Part) → All IsCovered parts → (chunks : List (List Part)) × AreChunks asked.sort (filter (is_candidate asked) parts) chunks }
+{}

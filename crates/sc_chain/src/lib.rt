@@ -2,3 +2,7 @@
 #![tactic(auto)]
 
 pub mod laws;
+mod paging;
+
+pub use paging::chain_pages;
+pub use sc_walk::{Query, Snapshot};
