@@ -1,0 +1,14 @@
+pub mod Settled
+pub mod Placing
+pub mod Drawing
+pub mod Geometries
+pub mod Literals
+pub mod Boxes
+pub mod Keeping
+pub mod Filters
+pub mod Giving
+pub mod Scalars
+pub mod Outermost
+pub mod Shapes
+pub mod Tests
+pub mod Meaning
