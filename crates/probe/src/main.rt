@@ -8,10 +8,13 @@ mod collections;
 mod cuts;
 mod geometries;
 mod item;
+mod journals;
 mod json;
 mod loads;
 mod numbers;
 mod orders;
+mod records;
+mod stops;
 mod times;
 
 use std::alloc::{AllocError, Global};
@@ -27,6 +30,8 @@ fn answer(alloc: Global, kind: &[u8], input: &[u8]) -> Result<Option<String>, Al
         b"dec-order" => numbers::dec_order(alloc, input),
         b"generate" => loads::generated(alloc, input),
         b"item" => item::item(alloc, input),
+        b"journal" => Ok(Some(journals::journal(alloc, input)?)),
+        b"journal-stop" => stops::journal_stop(alloc, input),
         b"json" => Ok(Some(json::json(alloc, input)?)),
         b"key-order" => orders::key_order(alloc, input),
         b"merge-patch" => item::patch(alloc, input),

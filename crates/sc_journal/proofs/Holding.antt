@@ -1,7 +1,7 @@
 -- From how a file stands behind the records to what a journal holds.
-use Rattle.std.proofs.Common.{◌≡◌, ◌⊎◌, inl, inr, ℕ, ◌+◌, List, [], ◌∷◌, ◌++◌, length, refl, sym, ◌∙◌, ap, subst, arith}
-use Rattle.sc_journal.specs.Disk.{Torn, TornFrom, Within, Only, Written}
-use Rattle.sc_journal.specs.Format.{frames, behind_gate, Fits, AllFit, IsClosed, HasRecords}
+use Rattle.std.proofs.Common.{◌≡◌, inl, ℕ, ◌+◌, List, [], ◌∷◌, ◌++◌, length, refl, sym, subst, arith}
+use Rattle.sc_journal.specs.Disk.{TornFrom, Within, Only, Written}
+use Rattle.sc_journal.specs.Format.{frames, behind_gate, Fits, AllFit, IsClosed}
 use Rattle.sc_journal.specs.Journal.{Holds, WithOrWithout, IsWritten, Stands, HasAfter}
 use Rattle.sc_journal.specs.declared.journal.Journal.{Journal}
 use Rattle.sc_journal.specs.declared.journal.LastAppend.{LastAppend}

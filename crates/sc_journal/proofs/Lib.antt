@@ -3,5 +3,6 @@ pub mod Files
 pub mod Holding
 pub mod Lists
 pub mod Steps
+pub mod Remembered
 pub mod Looking
 pub mod Openings

@@ -1,9 +1,8 @@
 -- What looking at a disk leaves, and what is read of it.
-use Rattle.std.proofs.Common.{◌≡◌, ◌⊎◌, inl, inr, ⊎_elim, ℕ, ◌+◌, ◌≤◌, ◌<◌, List, [], ◌∷◌, ◌++◌, length, take, drop, refl, sym, ◌∙◌, ap, subst, arith, length-append, take-append-drop}
-use Rattle.std.proofs.lemmas.List.{take-take, drop-take, take_all, length-take}
-use Rattle.sc_journal.specs.Disk.{Torn, TornFrom, Within, Same, Only, Written, Gains, LeavesOnly, Observed}
-use Rattle.sc_journal.specs.Format.{frames, AllFit, IsClosed, HasRecords, SameRecords}
-use Rattle.sc_journal.proofs.Tears.{started, goes_on, both, weaker}
+use Rattle.std.proofs.Common.{◌≡◌, ℕ, ◌+◌, ◌≤◌, List, ◌++◌, length, take, drop, refl, sym, ◌∙◌, ap, arith, length-append, take-append-drop}
+use Rattle.std.proofs.lemmas.List.{take-take, drop-take, take_all}
+use Rattle.sc_journal.specs.Disk.{Same, Gains, Observed}
+use Rattle.sc_journal.proofs.Tears.{started, goes_on}
 
 -- ---- bytes
 

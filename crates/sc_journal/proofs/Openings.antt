@@ -1,10 +1,10 @@
 -- What opening leaves of a disk, step by step.
-use Rattle.std.proofs.Common.{◌≡◌, ◌⊎◌, inl, inr, ⊎_elim, ℕ, ◌+◌, ◌*◌, ◌≤◌, ◌<◌, max, List, [], ◌∷◌, ◌++◌, length, take, drop, Result, Ok, Err, OnOk, OnErr, refl, sym, ◌∙◌, ap, subst, arith, length-append, take-append-drop}
+use Rattle.std.proofs.Common.{◌≡◌, inl, inr, ℕ, ◌*◌, ◌≤◌, List, [], ◌∷◌, ◌++◌, length, drop, refl, sym, ◌∙◌, ap, subst, arith, length-append, take-append-drop}
 use Rattle.sc_journal.specs.Disk.{Torn, TornFrom, Within, Same, Only, Written, Gains, LeavesOnly, Observed}
 use Rattle.sc_journal.specs.Format.{framed, frames, AllFit, IsClosed, HasRecords, SameRecords}
-use Rattle.sc_journal.proofs.Files.{length-counted, closed_has}
+use Rattle.sc_journal.proofs.Files.{length-counted}
 use Rattle.sc_journal.proofs.Lists.{one_records}
-use Rattle.sc_journal.proofs.Tears.{started, goes_on, both, weaker, synced}
+use Rattle.sc_journal.proofs.Tears.{started, goes_on, both, weaker}
 
 -- ---- files
 

@@ -1,10 +1,9 @@
 -- What each step of an append leaves of a journal.
-use Rattle.std.proofs.Common.{◌≡◌, ◌⊎◌, inl, inr, ⊎_elim, ℕ, ◌+◌, ◌≤◌, List, [], ◌∷◌, ◌++◌, length, refl, sym, ◌∙◌, ap, subst, arith, length-append}
-use Rattle.sc_journal.specs.Disk.{Torn, TornFrom, Within, Same, Only, Written, LeavesOnly}
-use Rattle.sc_journal.specs.Format.{frames, behind_gate, Fits, AllFit, IsClosed, HasRecords}
-use Rattle.sc_journal.specs.Journal.{Holds, WithOrWithout, IsWritten, Stands, HasAfter}
+use Rattle.std.proofs.Common.{◌≡◌, inl, ℕ, ◌+◌, List, [], ◌∷◌, ◌++◌, length, ◌∙◌, subst, arith, length-append}
+use Rattle.sc_journal.specs.Disk.{TornFrom, Within, Same, Only, Written, LeavesOnly}
+use Rattle.sc_journal.specs.Format.{behind_gate, Fits}
+use Rattle.sc_journal.specs.Journal.{Holds, WithOrWithout, Stands}
 use Rattle.sc_journal.specs.declared.journal.Journal.{Journal}
-use Rattle.sc_journal.specs.declared.journal.LastAppend.{LastAppend}
 use Rattle.sc_journal.specs.declared.journal.LastAppend.TheVariants.{Stored, GateClosed, GateWritten}
 use Rattle.sc_journal.proofs.Files.{AllFit-last, length-frames_last, written_has, closed_has}
 use Rattle.sc_journal.proofs.Holding.{holds, has_with, stands_closed, closed_tears, written_tears, record_stored, gate_opened, gate_closed}

@@ -1,5 +1,5 @@
 -- What writes leave, and how a run of calls of a disk goes on.
-use Rattle.std.proofs.Common.{◌≡◌, ◌⊎◌, inl, inr, ⊎_elim, ℕ, ◌+◌, ◌≤◌, min, List, length, take, drop, Result, Ok, Err, OnOk, OnErr, refl, sym, ◌∙◌, ap, subst, arith}
+use Rattle.std.proofs.Common.{◌≡◌, inl, inr, ⊎_elim, ℕ, ◌≤◌, min, List, length, take, Result, Ok, Err, OnOk, OnErr, refl, sym, ◌∙◌, subst, arith}
 use Rattle.std.proofs.lemmas.List.{take_min}
 use Rattle.sc_journal.specs.Disk.{Torn, TornFrom, Within, Same, Only, Gains, LeavesOnly}
 

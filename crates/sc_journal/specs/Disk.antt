@@ -1,5 +1,5 @@
 -- What the calls of a disk do to its bytes, and what a crash may leave of them.
-use Rattle.std.specs.Prelude.{◌≡◌, ◌⊎◌, ℕ, ◌+◌, ◌≤◌, ◌<◌, min, max, List, length, take, drop}
+use Rattle.std.specs.Prelude.{◌≡◌, ◌⊎◌, ℕ, ◌+◌, ◌≤◌, min, max, List, length, take, drop}
 
 -- What a write of n bytes at a place may make of a file, whatever becomes of it: the bytes before the place and those behind
 -- the range stay, and any may stand in the range and, where it goes past the old end, from there on.

@@ -1,4 +1,7 @@
 pub mod Disk
 pub mod Format
+pub mod Images
 pub mod Journal
+pub mod Memory
 pub mod Opening
+pub mod Recorded

@@ -1,5 +1,5 @@
 -- Why a journal isn't opened.
-use Rattle.std.specs.Prelude.{◌≡◌, ℕ, ◌≤◌, Result, OnErr, IfErr, ⊤}
+use Rattle.std.specs.Prelude.{◌≡◌, ℕ, ◌≤◌, Result, IfErr, ⊤}
 use Rattle.sc_outside.specs.Causes.{Rose}
 use Rattle.sc_journal.specs.declared.fault.OpenFault.{OpenFault}
 use Rattle.sc_journal.specs.declared.fault.OpenFault.TheVariants.{DiskFault, BadRecord, OutOfMemory}

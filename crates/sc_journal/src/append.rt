@@ -2,12 +2,23 @@ use crate::store::store;
 use crate::{Disk, Journal, LastAppend, Sealed};
 use sc_outside::Failed;
 
+/// The place of a journal, with a record that is appended, is below this.
+const MOST_BYTES: u64 = 1 << 63;
+
 impl<D: Disk> Journal<D> {
-    ghost use Rattle.std.specs.Prelude.{◌≡◌, ◌≢◌, ◌<◌, ◌≤◌, ◌+◌, ◌^◌, ◌++◌, ◌∷◌, [], List, ℕ, length, OnOk, OnErr};
+    ghost use Rattle.std.specs.Prelude.{nat_lt, ◌≡◌, ◌≢◌, ◌<◌, ◌≤◌, ◌+◌, ◌^◌, ◌++◌, ◌∷◌, [], List, ℕ, length, OnOk, OnErr};
     ghost use Rattle.sc_outside.specs.Causes.{HasCause};
     ghost use Rattle.sc_journal.specs.Disk.{LeavesOnly};
     ghost use Rattle.sc_journal.specs.Journal.{Holds, WithOrWithout};
     ghost use Rattle.sc_journal.specs.declared.journal.LastAppend.TheVariants.{Stored, GateClosed, GateWritten};
+
+    /// Whether the file may have a record more: its place and the record's bytes are together below 2^63.
+    pub fn has_room(&self, sealed: &Sealed) -> bool
+        ensures { result ≡ nat_lt (self.now.place + length sealed.now) (2 ^ 63) }
+    {
+        let room = MOST_BYTES.saturating_sub(self.place);
+        (sealed.payload().len() as u64) < room
+    }
 
     /// Appends a record. At `Ok` it is stored: from then on each crash leaves a file that has it. `Failed` comes only where
     /// the disk's count of faults rose. After it a crash leaves the file with the record or without it, and it is the same
@@ -106,6 +117,20 @@ impl<D: Disk> Journal<D> {
         self.count += 1;
         self.last = LastAppend::Stored;
         Ok(())
+    }
+
+    /// The number of its records.
+    pub fn count(&self) -> u64
+        ensures { result ≡ self.now.count }
+    {
+        self.count
+    }
+
+    /// The bytes of its records, each with a gate and a length.
+    pub fn place(&self) -> u64
+        ensures { result ≡ self.now.place }
+    {
+        self.place
     }
 
     /// The journal's disk.

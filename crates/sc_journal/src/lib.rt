@@ -4,21 +4,28 @@
 
 mod append;
 mod disk;
+mod failing;
 mod fault;
 mod file;
 mod journal;
 mod laws;
+mod mem_disk;
 mod opening;
+mod pieces;
 mod reading;
+mod recorded;
 mod sealed;
 mod store;
+mod sure_disk;
 
 pub use disk::Disk;
 pub use fault::OpenFault;
 pub use file::FileDisk;
 pub use journal::{Journal, LastAppend};
 pub use laws::{one_bad_record, one_list};
+pub use mem_disk::MemDisk;
 pub use opening::{OpenRefused, Opened, open};
 pub use sc_base::Seq;
 pub use sc_outside::Failed;
 pub use sealed::Sealed;
+pub use sure_disk::SureDisk;

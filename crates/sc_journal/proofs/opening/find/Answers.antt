@@ -1,6 +1,6 @@
-use Rattle.std.proofs.Common.{◌≡◌, ◌≤◌, List, ℕ, length, [], refl, sym, ap, subst, inl, ◌∙◌, arith}
-use Rattle.sc_journal.specs.Format.{IsClosed, HasRecords}
-use Rattle.sc_journal.proofs.Openings.{IsStored, sync_done, then_looked, then_gate, gate_first}
+use Rattle.std.proofs.Common.{◌≤◌, List, ℕ, length, [], sym, ap, subst, inl, arith}
+use Rattle.sc_journal.specs.Format.{IsClosed}
+use Rattle.sc_journal.proofs.Openings.{sync_done, then_looked, then_gate, gate_first}
 use Rattle.sc_journal.proofs.opening.find.Goals as goal
 
 pub returns-in_err-store-clause-any_moment : goal.returns-in_err-store-clause-any_moment

@@ -1,4 +1,4 @@
-use Rattle.std.proofs.Common.{◌*◌, ◌≤◌, length, ap, arith}
+use Rattle.std.proofs.Common.{length, ap, arith}
 use Rattle.sc_journal.proofs.Openings.{few_records}
 use Rattle.sc_journal.proofs.opening.open.Goals as goal
 

@@ -1,4 +1,4 @@
-use Rattle.std.proofs.Common.{◌≡◌, ◌≤◌, List, ℕ, length, take, drop, ap, subst, ◌∙◌, arith, rules}
+use Rattle.std.proofs.Common.{◌≡◌, List, ℕ, length, take, drop, ap, subst, ◌∙◌, arith, rules}
 use Rattle.std.proofs.lemmas.List.{length-take}
 use Rattle.sc_journal.proofs.Looking.{read_more, observed_more}
 use Rattle.sc_journal.proofs.opening.read_file.Goals as goal

@@ -1,4 +1,4 @@
-use Rattle.std.proofs.Common.{◌≡◌, ◌+◌, ◌^◌, ◌<◌, List, ℕ, length, take, drop, ap, ◌∙◌, arith}
+use Rattle.std.proofs.Common.{◌<◌, List, ℕ, length, take, drop, ap, ◌∙◌, arith}
 use Rattle.std.proofs.lemmas.List.{length-take}
 use Rattle.sc_journal.proofs.Lists.{AreBytes-take, number_below, whole_record, after_some}
 use Rattle.sc_journal.proofs.reading.next_record.Goals as goal

@@ -1,4 +1,4 @@
-use Rattle.std.proofs.Common.{◌≡◌, ℕ, ◌<◌, ◌++◌, length}
+use Rattle.std.proofs.Common.{◌≡◌, ◌<◌, ◌++◌, length}
 use Rattle.sc_journal.specs.Format.{frames, AllFit}
 use Rattle.sc_journal.proofs.reading.records_in.Given as goal
 

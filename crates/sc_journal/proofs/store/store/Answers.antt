@@ -1,6 +1,5 @@
-use Rattle.std.proofs.Common.{ℕ, ◌≤◌, List, length, Result, Ok, Err, OnOk, OnErr, refl, sym, subst, rules, arith}
-use Rattle.sc_outside.specs.declared.outside.Failed.{Failed}
-use Rattle.sc_journal.specs.Disk.{TornFrom, Within, Only, Same}
+use Rattle.std.proofs.Common.{length, arith}
+use Rattle.sc_journal.specs.Disk.{TornFrom, Within}
 use Rattle.sc_journal.proofs.Tears.{torn_now, started, goes_on, synced}
 use Rattle.sc_journal.proofs.store.store.Goals as goal
 

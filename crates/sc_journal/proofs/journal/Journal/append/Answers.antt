@@ -1,5 +1,4 @@
-use Rattle.std.proofs.Common.{◌≤◌, List, ℕ, arith}
-use Rattle.sc_journal.specs.Disk.{LeavesOnly}
+use Rattle.std.proofs.Common.{◌≤◌, arith}
 use Rattle.sc_journal.specs.Journal.{WithOrWithout}
 use Rattle.sc_journal.proofs.Tears.{on_err, on_err_to, on_ok_to, both}
 use Rattle.sc_journal.proofs.journal.Journal.append.Goals as goal

@@ -1,4 +1,4 @@
-use Rattle.std.proofs.Common.{◌+◌, ◌^◌, ◌<◌, length, ap, refl, arith}
+use Rattle.std.proofs.Common.{◌^◌, ◌<◌, length, ap, refl, arith}
 use Rattle.sc_journal.proofs.Steps.{torn_gate, opened_gate, run_gate}
 use Rattle.sc_journal.proofs.Tears.{on_err}
 use Rattle.sc_journal.proofs.journal.Journal.open_gate.Goals as goal
