@@ -1,4 +1,5 @@
 pub mod Characters
 pub mod Runs
+pub mod Places
 pub mod Truths
 pub mod Tables

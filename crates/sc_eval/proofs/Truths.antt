@@ -1,5 +1,5 @@
 -- Truth of many members, one after the other.
-use Rattle.std.proofs.Common.{◌≡◌, ℕ, ◌<◌, Bool, true, false, ◌||◌, List, [], ◌∷◌, map, get_or, length, refl, sym, ap, ◌∙◌, subst, arith, suc, zero}
+use Rattle.std.proofs.Common.{◌≡◌, ℕ, ◌<◌, Bool, true, false, ◌||◌, List, [], ◌∷◌, map, get_or, length, refl, sym, ap, ◌∙◌, arith, suc, zero}
 use Rattle.std.specs.List.{list_any}
 use Rattle.sc_expr.specs.declared.expr.Truth3.{Truth3}
 use Rattle.sc_expr.specs.declared.expr.Truth3.TheVariants.{True, False, Unknown}

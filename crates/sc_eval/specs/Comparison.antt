@@ -1,5 +1,5 @@
 -- How two values compare, and truth in three values (OGC 21-065 §6.3.1).
-use Rattle.std.specs.Prelude.{ℕ, ℤ, Bool, true, false, List, [], ◌∷◌, Option, Some, None, option_map, if◌then◌else◌}
+use Rattle.std.specs.Prelude.{ℕ, ℤ, Bool, true, false, List, [], ◌∷◌, Option, Some, None}
 use Rattle.std.specs.Result.{result_ok}
 use Rattle.std.specs.declared.cmp.Ordering.{Ordering}
 use Rattle.std.specs.Ordering.{int_cmp, bool_cmp, is_lt, is_eq, is_gt, is_le, is_ge, is_ne}
@@ -10,7 +10,7 @@ use Rattle.sc_expr.specs.declared.expr.CompOp.{CompOp}
 use Rattle.sc_expr.specs.declared.expr.CompOp.TheVariants.{Eq, Ne, Lt, Gt, Le, Ge}
 use Rattle.sc_expr.specs.declared.expr.Truth3.{Truth3}
 use Rattle.sc_expr.specs.declared.expr.Truth3.TheVariants.{True, False, Unknown}
-use Rattle.sc_eval.specs.Property.{PropertyValue, absent, text, number, truth, moment, shape, other}
+use Rattle.sc_eval.specs.Property.{PropertyValue, text, number, truth, moment}
 
 -- the instant that a text is, if it is one
 abbrev pub instant_of : List ℕ → Option ℤ

@@ -1,7 +1,7 @@
 pub mod Property
 pub mod Comparison
 pub mod Like
-pub mod Shorter
+pub mod Ahead
 pub mod Meaning
 pub mod Held
 pub mod Selection

@@ -148,7 +148,7 @@ impl<'a> Prepared<'a> {
     }
 
     /// Whether the search selects an item: every part of it that is there holds. An item without geometry meets nothing.
-    /// Memory is taken for CASEI alone.
+    /// Memory is needed for CASEI alone.
     ///
     /// The collection, the id and the time are looked at first, then the boxes, then the shape and the filter.
     #[tactic(auto, unfolding(crate::specs::Selection::is_selected))]
@@ -177,7 +177,7 @@ impl<'a> Prepared<'a> {
 
 /// Whether a search selects an item: every part of it that is there holds. An item without geometry meets nothing.
 /// A search that is asked of many items is prepared once, by [`Prepared::of`], which says the same of each. Memory is
-/// taken for the table of ids and for CASEI.
+/// needed for the table of ids and for CASEI.
 pub fn selects(alloc: Global, select: &Select, item: &Item) -> Result<bool, AllocError>
     ensures { IfOk result (λ selected. selected ≡ is_selected select.now item.now) }
 {

@@ -122,9 +122,9 @@ fn like_text(alloc: Global, text: &Text, pattern: &Pattern) -> Result<Truth3, Al
 {
     if pattern.folded {
         let folded = folded_text(alloc, pattern.text.as_str())?;
-        return Ok(known(is_like(folded.as_str(), text.as_str())));
+        return Ok(known(is_like(alloc, folded.as_str(), text.as_str())));
     }
-    Ok(known(is_like(pattern.text.as_str(), text.as_str())))
+    Ok(known(is_like(alloc, pattern.text.as_str(), text.as_str())))
 }
 
 fn like_operand(alloc: Global, operand: &Operand, pattern: &Pattern) -> Result<Truth3, AllocError>
@@ -224,7 +224,8 @@ fn truth_of(alloc: Global, expr: &Expr, item: &Item) -> Result<Truth3, AllocErro
     }
 }
 
-/// What a filter is of an item: true, false or unknown. Memory is taken for CASEI alone.
+/// What a filter is of an item: true, false or unknown. Memory is needed for CASEI alone: LIKE takes some for a pattern with
+/// backslashes, but does without where there is none.
 pub fn eval(alloc: Global, filter: &Filter, item: &Item) -> Result<Truth3, AllocError>
     ensures value { IfOk result (λ t. t ≡ truth_in item.now filter.now) }
     ensures memory { OnErr result (IsTrue (folds filter.now)) }

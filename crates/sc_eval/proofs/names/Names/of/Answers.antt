@@ -1,4 +1,4 @@
-use Rattle.std.proofs.Common.{arith, ap, sym, ◌∙◌}
+use Rattle.std.proofs.Common.{arith}
 use Rattle.sc_eval.proofs.Tables.{one_more}
 use Rattle.sc_eval.proofs.names.Names.of.Goals as goal
 
