@@ -10,6 +10,7 @@ ghost use Rattle.sc_page.specs.Kept.{HasFound, IsSettled};
 use crate::compare::compare_items;
 use crate::found::Page;
 use crate::key::key_of_item;
+use crate::placing::from_place;
 use crate::search::Search;
 use crate::starts::{is_earliest_first, is_latest_first, starts_after, starts_before};
 use sc_base::Seq;
@@ -248,7 +249,8 @@ impl FirstItems {
     }
 
     /// Takes more items, which stand by their starts, the latest first, and no two of which and of those before have one
-    /// name. Under a sort that begins with the time, those aren't looked at that start behind the last of the first items.
+    /// name. Under a sort that begins with the time, those aren't looked at that start before the place at which the page
+    /// begins, which is found by halving, nor those that start behind the last of the first items.
     pub fn add_latest_first(
         &mut self,
         alloc: Global,
@@ -258,10 +260,11 @@ impl FirstItems {
         requires { AreLatestFirst (shared items.now) }
         ensures { OnOk result ((before : List Feature) → AreApart (before ++ shared items.now) → HasFound search.now self.old before → HasFound search.now self.new (before ++ shared items.now)) }
     {
+        let rest = from_place(search, items);
         if is_earliest_first(search.sort()) {
-            return self.add_from_end(alloc, search, items);
+            return self.add_from_end(alloc, search, rest);
         }
-        self.add_from_start(alloc, search, items)
+        self.add_from_start(alloc, search, rest)
     }
 
     /// The page of the items.

@@ -14,6 +14,7 @@ mod linked;
 mod links;
 mod order;
 mod page;
+mod placing;
 mod search;
 mod starts;
 mod text;
