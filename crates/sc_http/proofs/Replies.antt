@@ -33,7 +33,7 @@ unfolding phrase
 phrase_short s =
     if_short (s == 200) 31 _ _ (omega arith) (if_short (s == 201) 31 _ _ (omega arith) (if_short (s == 400) 31 _ _ (omega arith) (if_short (s == 404) 31 _ _ (omega arith) (
     if_short (s == 405) 31 _ _ (omega arith) (if_short (s == 409) 31 _ _ (omega arith) (if_short (s == 411) 31 _ _ (omega arith) (if_short (s == 413) 31 _ _ (omega arith) (
-    if_short (s == 431) 31 _ _ (omega arith) (if_short (s == 501) 31 _ _ (omega arith) (omega arith))))))))))
+    if_short (s == 431) 31 _ _ (omega arith) (if_short (s == 500) 31 _ _ (omega arith) (if_short (s == 501) 31 _ _ (omega arith) (omega arith)))))))))))
 
 status_small : (s : ℕ) → IsTrue (is_status s) → s < 2 ^ 16
 status_small s h = grind (arith, nat_tests)

@@ -4,7 +4,7 @@ use Rattle.sc_http.specs.declared.reply.Reply.{Reply}
 
 -- the statuses of the replies that have a revision
 abbrev pub is_status : ℕ → Bool
-is_status s = (s == 200) || ((s == 201) || ((s == 400) || ((s == 404) || ((s == 405) || ((s == 409) || ((s == 411) || ((s == 413) || ((s == 431) || ((s == 501) || (s == 507))))))))))
+is_status s = (s == 200) || ((s == 201) || ((s == 400) || ((s == 404) || ((s == 405) || ((s == 409) || ((s == 411) || ((s == 413) || ((s == 431) || ((s == 500) || ((s == 501) || (s == 507)))))))))))
 
 -- the phrase of such a status
 unfoldable pub phrase : ℕ → List ℕ
@@ -18,7 +18,8 @@ phrase s =
     (if s == 411 then codes "Length Required" else
     (if s == 413 then codes "Payload Too Large" else
     (if s == 431 then codes "Request Header Fields Too Large" else
-    (if s == 501 then codes "Not Implemented" else codes "Insufficient Storage")))))))))
+    (if s == 500 then codes "Internal Server Error" else
+    (if s == 501 then codes "Not Implemented" else codes "Insufficient Storage"))))))))))
 
 unfoldable pub version_text : List ℕ
 version_text = codes "HTTP/1.1 "

@@ -17,7 +17,7 @@ const ROOM_FOR_HEAD: usize = 512;
 /// A reply, but for that to want of memory.
 #[derive(Debug, Drop)]
 pub struct Reply {
-    /// 200, 201, 400, 404, 405, 409, 411, 413, 431, 501 or 507.
+    /// 200, 201, 400, 404, 405, 409, 411, 413, 431, 500, 501 or 507.
     pub status: u16,
     /// Whether the body is GeoJSON, as a page or an item, and not any other JSON.
     pub geo: bool,

@@ -17,6 +17,7 @@ pub fn phrase_of(status: u16) -> &'static str
         411 => "Length Required",
         413 => "Payload Too Large",
         431 => "Request Header Fields Too Large",
+        500 => "Internal Server Error",
         501 => "Not Implemented",
         _ => "Insufficient Storage",
     }

@@ -77,3 +77,14 @@ accepted_status made = if made then 201 else 200
 
 abbrev pub accepted_of : Bool → ℕ → ℕ → Saying
 accepted_of made revision items = told (accepted_status made) false (load_text revision items)
+
+unfoldable pub not_stored_start : List ℕ
+not_stored_start = codes "{\"code\":\"NotStored\",\"description\":\""
+
+-- the JSON object of a refusal by the name of `NotStored`, which is about the number of the loads that are stored
+abbrev pub not_stored_text : ℕ → List ℕ
+not_stored_text stored = not_stored_start ++ decimal stored ++ 34 ∷ 125 ∷ []
+
+-- the history has the load, and only so many of its loads are stored
+abbrev pub not_stored : ℕ → Saying
+not_stored stored = told 500 false (not_stored_text stored)

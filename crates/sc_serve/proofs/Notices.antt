@@ -13,7 +13,7 @@ use Rattle.sc_notice.specs.declared.notice.Notice.{Notice}
 use Rattle.sc_notice.specs.declared.notice.Notice.TheVariants.{Part}
 use Rattle.sc_notice.specs.declared.notice.Call.{Call}
 use Rattle.sc_notice.specs.Callers.{Caller, Calls, tells}
-use Rattle.sc_serve.specs.Notices.{IsToldBy, AreToldBy, Changes, IsEntryTold, AreEntriesTold, TellsOfLoads, AreTold}
+use Rattle.sc_serve.specs.Notices.{IsToldBy, AreToldBy, Changes, AreEntriesTold, TellsOfLoads, AreTold}
 
 -- ---- parts, one after the other
 

@@ -22,43 +22,60 @@ use Rattle.sc_route.specs.declared.job.Work.TheVariants as Of
 use Rattle.sc_refusal.specs.declared.fault.RouteFault.{RouteFault}
 use Rattle.sc_refusal.specs.declared.fault.RouteFault.TheVariants as Route
 use Rattle.sc_refusal.specs.Refusals.{load_refused}
-use Rattle.sc_said.specs.Said.{Saying, reply_of, accepted_of, behind, json}
-use Rattle.sc_serve.specs.Desks.{TakesLoad, RefusesLoad}
+use Rattle.sc_said.specs.Said.{Saying, reply_of, accepted_of, not_stored, behind, json}
+use Rattle.sc_serve.specs.declared.desk.Tried.{Tried}
+use Rattle.sc_serve.specs.declared.desk.Tried.TheVariants as tries
+use Rattle.sc_serve.specs.Desks.{TakesLoad, LeavesUnstored, RefusesLoad, TriesLoad, revision_of, said_of_tried}
 use Rattle.sc_serve.specs.Replies.{makes, count_of, of_refusal, of_route, of_end, is_behind, is_load, fixed, SaysOf, Says}
-use Rattle.sc_serve.specs.Service.{api, refusal_of, asks_of, IsReadAs, IsDone, Handles, IsTried, Tries}
+use Rattle.sc_serve.specs.Service.{api_of, refusal_of, asks_of, IsReadAs, IsDone, Handles, IsTried, Tries}
 
 abbrev pub said_text : Saying → ℕ → Bool → List ℕ
 said_text said revision close = reply_bytes (reply_of said revision close)
 
-module _ (base : List ℕ) (close : Bool) where
+module _ (may_fail : Type 0) (base : List ℕ) (close : Bool) where
   -- ---- a load in one turn
 
-  pub accepted : (load : Load) (revision : ℕ) (old new : Visitor Entry) (made : Bool) (items : ℕ) (text : List ℕ) → TakesLoad load revision old new
-      → made ≡ makes load → items ≡ count_of load → text ≡ said_text (accepted_of made revision items) revision close → IsTried base close load text old new
+  accepted : (load : Load) (revision : ℕ) (old new : Visitor Entry) (made : Bool) (items : ℕ) (text : List ℕ) → TakesLoad load revision old new
+      → made ≡ makes load → items ≡ count_of load → text ≡ said_text (accepted_of made revision items) revision close → IsTried may_fail base close load text old new
   accepted load revision old new made items text took m i t = record {
     accepted = true;
     publishes = took.turn;
     said = accepted_of (makes load) (length new.seen) (count_of load);
-    says = refl;
+    says = inl refl;
     text_is = t ∙ ap (λ b. said_text (accepted_of b revision items) revision close) m ∙ ap (λ n. said_text (accepted_of (makes load) revision n) revision close) i
         ∙ ap (λ r. said_text (accepted_of (makes load) r (count_of load)) r close) took.revision_is;
   }
 
   pub refused : {F : Type 0} (load : Load) (why : LoadRefused) (old new : Visitor Entry) (said : Saying) (r : Result (List ℕ) F) → RefusesLoad load why old new
-      → (why.fault ≡ Fault.OutOfMemory → ⊥) → said ≡ of_refusal (load_refused why.fault) → IfOk r (λ text. text ≡ said_text said why.revision close) → Tries base close load r old new
+      → (why.fault ≡ Fault.OutOfMemory → ⊥) → said ≡ of_refusal (load_refused why.fault) → IfOk r (λ text. text ≡ said_text said why.revision close) → Tries may_fail base close load r old new
   refused {F} load why old new said (Ok text) took known is t = record {
     accepted = false;
     publishes = took.turn;
     said = said;
-    says = record { fault = why.fault; known = known; refuses = took.is; said_is = is };
+    says = inl (record { fault = why.fault; known = known; refuses = took.is; said_is = is });
     text_is = t ∙ ap (λ r. said_text said r close) took.revision_is;
   }
   refused {F} load why old new said (Err fault) took known is t = inr took.turn
 
+  unstored : (load : Load) (revision stored : ℕ) (old new : Visitor Entry) (text : List ℕ) → LeavesUnstored may_fail load revision stored old new
+      → text ≡ said_text (not_stored stored) revision close → IsTried may_fail base close load text old new
+  unstored load revision stored old new text left t = record {
+    accepted = true;
+    publishes = left.takes.turn;
+    said = not_stored stored;
+    says = inr (record { may = left.may; was_accepted = refl; stored = stored; fewer = left.fewer; said_is = refl });
+    text_is = t ∙ ap (λ r. said_text (not_stored stored) r close) left.takes.revision_is;
+  }
+
+  pub taken : (load : Load) (tried : Tried) (old new : Visitor Entry) (made : Bool) (items : ℕ) (text : List ℕ) → TriesLoad may_fail load (Ok tried) old new
+      → made ≡ makes load → items ≡ count_of load → text ≡ said_text (said_of_tried made items tried) (revision_of tried) close → IsTried may_fail base close load text old new
+  taken load (tries.Taken revision) old new made items text took m i t = accepted load revision old new made items text took m i t
+  taken load (tries.NotStored revision stored) old new made items text took m i t = unstored load revision stored old new text took t
+
   -- ---- a load, where a revision may be stated
 
-  pub tried : {F : Type 0} (load : Load) (r : Result (List ℕ) F) (old new : Visitor Entry) → Tries base close load r old new
-      → Handles base close (Ok (record { seen = None; work = Of.Load load })) r old new
+  pub tried : {F : Type 0} (load : Load) (r : Result (List ℕ) F) (old new : Visitor Entry) → Tries may_fail base close load r old new
+      → Handles may_fail base close (Ok (record { seen = None; work = Of.Load load })) r old new
   tried {F} load (Ok text) old new t = record { accepted = t.accepted; does = t.publishes; said = t.said; says = t.says; text_is = t.text_is }
   tried {F} load (Err fault) old new t = ⊎_elim (λ x. inl x) (λ x. inr (inl x)) t
 
@@ -67,30 +84,30 @@ module _ (base : List ℕ) (close : Bool) where
     job = Ok (record { seen = Some stated; work = Of.Load load })
 
     pub is_told_behind : {F : Type 0} (r : Result (List ℕ) F) (revision : ℕ) → revision < stated → revision ≡ length mid.seen
-        → IfOk r (λ text. text ≡ said_text (behind revision) revision close) → Handles base close job r old mid
+        → IfOk r (λ text. text ≡ said_text (behind revision) revision close) → Handles may_fail base close job r old mid
     is_told_behind {F} (Ok text) revision less is t =
         let far : length mid.seen < stated = omega (arith, less, is) in
         record {
           accepted = false;
           does = (mid, turn, inl (far, refl, refl));
           said = behind (length mid.seen);
-          says = subst (λ b. Says base b (Of.Load load) mid.seen false (behind (length mid.seen))) (sym (lt-ltb (length mid.seen) stated far)) (refl, refl);
+          says = inl (subst (λ b. Says base b (Of.Load load) mid.seen false (behind (length mid.seen))) (sym (lt-ltb (length mid.seen) stated far)) (refl, refl));
           text_is = t ∙ ap (λ r. said_text (behind r) r close) is;
         }
     is_told_behind {F} (Err fault) revision less is t = inr (inl turn)
 
-    grows : (accepted : Bool) (new : Visitor Entry) → Publishes (api base) load accepted mid new → length mid.seen ≤ length new.seen
+    grows : (accepted : Bool) (new : Visitor Entry) → Publishes (api_of may_fail base) load accepted mid new → length mid.seen ≤ length new.seen
     grows true new p = let g = turn_grows by (entry_of mid.number load ∷ []) mid new p.0 in omega (arith, ap length g.1, length-append mid.seen g.0)
     grows false new p = let g = turn_grows by [] mid new p in omega (arith, ap length g.1, length-append mid.seen g.0)
 
-    pub tried_from : {F : Type 0} (r : Result (List ℕ) F) (new : Visitor Entry) → stated ≤ length mid.seen → Tries base close load r mid new → Handles base close job r old new
+    pub tried_from : {F : Type 0} (r : Result (List ℕ) F) (new : Visitor Entry) → stated ≤ length mid.seen → Tries may_fail base close load r mid new → Handles may_fail base close job r old new
     tried_from {F} (Ok text) new reached t =
         let far : stated ≤ length new.seen = omega (arith, reached, grows t.accepted new t.publishes) in
         record {
           accepted = t.accepted;
           does = (mid, turn, inr (reached, t.publishes));
           said = t.said;
-          says = subst (λ b. Says base b (Of.Load load) new.seen t.accepted t.said) (sym (le-ltb (length new.seen) stated far)) t.says;
+          says = ⊎_elim (λ s. inl (subst (λ b. Says base b (Of.Load load) new.seen t.accepted t.said) (sym (le-ltb (length new.seen) stated far)) s)) (λ s. inr s) t.says;
           text_is = t.text_is;
         }
     tried_from {F} (Err fault) new reached t = ⊎_elim (λ x. inr (inl (subst (λ v. TakesTurn by [] old v) (sym x) turn))) (λ x. inr (inr (mid, turn, (new, x, refl)))) t
@@ -99,28 +116,28 @@ module _ (base : List ℕ) (close : Bool) where
 
   pub looked : {F : Type 0} (seen : Option ℕ) (work : Work) (old new : Visitor Entry) (said : Saying) (revision : ℕ) (r : Result (List ℕ) F) → TakesTurn by [] old new → asks_of work seen ≡ Look
       → revision ≡ length new.seen → Says base (is_behind seen (length new.seen)) work new.seen false said → IfOk r (λ text. text ≡ said_text said revision close)
-      → Handles base close (Ok (record { seen = seen; work = work })) r old new
+      → Handles may_fail base close (Ok (record { seen = seen; work = work })) r old new
   looked {F} seen work old new said revision (Ok text) turn look is says t = record {
     accepted = false;
-    does = subst (λ a. Does (api base) a false old new) (sym look) (refl, turn);
+    does = subst (λ a. Does (api_of may_fail base) a false old new) (sym look) (refl, turn);
     said = said;
-    says = says;
+    says = inl says;
     text_is = t ∙ ap (λ r. said_text said r close) is;
   }
   looked {F} seen work old new said revision (Err fault) turn look is says t = inr (inl turn)
 
   pub fixed_said : {F : Type 0} (work : Work) (v : Visitor Entry) (document : List ℕ) (revision : ℕ) (r : Result (List ℕ) F) → Some document ≡ fixed base work → revision ≡ length v.seen
-      → IfOk r (λ text. text ≡ said_text (json document) revision close) → Handles base close (Ok (record { seen = None; work = work })) r v v
+      → IfOk r (λ text. text ≡ said_text (json document) revision close) → Handles may_fail base close (Ok (record { seen = None; work = work })) r v v
   fixed_said {F} work v document revision (Err fault) f is t = inl refl
   fixed_said {F} work v document revision (Ok text) f is t = go work f
     where
       whole : text ≡ said_text (json document) (length v.seen) close
       whole = t ∙ ap (λ r. said_text (json document) r close) is
 
-      say : (work : Work) → SaysOf base work v.seen false (json document) → asks_of work None ≡ Nothing → IsDone base close (Ok (record { seen = None; work = work })) text v v
-      say work says ask = record { accepted = false; does = subst (λ a. Does (api base) a false v v) (sym ask) (refl, refl); said = json document; says = says; text_is = whole }
+      say : (work : Work) → SaysOf base work v.seen false (json document) → asks_of work None ≡ Nothing → IsDone may_fail base close (Ok (record { seen = None; work = work })) text v v
+      say work says ask = record { accepted = false; does = subst (λ a. Does (api_of may_fail base) a false v v) (sym ask) (refl, refl); said = json document; says = inl says; text_is = whole }
 
-      go : (work : Work) → Some document ≡ fixed base work → IsDone base close (Ok (record { seen = None; work = work })) text v v
+      go : (work : Work) → Some document ≡ fixed base work → IsDone may_fail base close (Ok (record { seen = None; work = work })) text v v
       go Of.Landing e = let d : document ≡ landing base = cc in say Of.Landing (ap json d) refl
       go Of.Conformance e = let d : document ≡ conformance = cc in say Of.Conformance (ap json d) refl
       go Of.Queryables e = let d : document ≡ queryables = cc in say Of.Queryables (ap json d) refl
@@ -131,8 +148,8 @@ module _ (base : List ℕ) (close : Bool) where
       go (Of.Load load) e = absurd cc
 
   pub refused_route : {F : Type 0} (fault : RouteFault) (v : Visitor Entry) (said : Saying) (revision : ℕ) (r : Result (List ℕ) F) → said ≡ of_route fault → revision ≡ length v.seen
-      → IfOk r (λ text. text ≡ said_text said revision close) → Handles base close (Err fault) r v v
-  refused_route {F} fault v said revision (Ok text) is at t = record { accepted = false; does = (refl, refl); said = said; says = is; text_is = t ∙ ap (λ r. said_text said r close) at }
+      → IfOk r (λ text. text ≡ said_text said revision close) → Handles may_fail base close (Err fault) r v v
+  refused_route {F} fault v said revision (Ok text) is at t = record { accepted = false; does = (refl, refl); said = said; says = inl is; text_is = t ∙ ap (λ r. said_text said r close) at }
   refused_route {F} fault v said revision (Err f) is at t = inl refl
 
 -- ---- what jobs ask
@@ -165,20 +182,20 @@ err_known fault known e = let is : fault ≡ Route.OutOfMemory = cc in known is
 pub ok_known : (job : Job) → let read : Result Job RouteFault = Ok job in read ≢ Err Route.OutOfMemory
 ok_known job e = cc
 
-pub answers : {F : Type 0} (base : List ℕ) (q : Request) (job : Result Job RouteFault) (r : Result (List ℕ) F) (old new : Visitor Entry) → IsReadAs base q job → Handles base q.close job r old new
-    → session.Answers (api base) r q old new
-answers {F} base q j (Ok text) old new read d = (
+pub answers : {F : Type 0} (may_fail : Type 0) (base : List ℕ) (q : Request) (job : Result Job RouteFault) (r : Result (List ℕ) F) (old new : Visitor Entry) → IsReadAs base q job → Handles may_fail base q.close job r old new
+    → session.Answers (api_of may_fail base) r q old new
+answers {F} may_fail base q j (Ok text) old new read d = (
   reply_of d.said (length new.seen) q.close,
   record { job = j; read = read; accepted = d.accepted; does = d.does; replied = (d.said, d.says, refl); revision = refl },
   d.text_is,
 )
-answers {F} base q j (Err fault) old new read d = d
+answers {F} may_fail base q j (Err fault) old new read d = d
 
-pub route_answers : {F : Type 0} (base : List ℕ) (q : Request) (fault : RouteFault) (r : Result (List ℕ) F) (v : Visitor Entry) (revision : ℕ) → JobOf base q (Err fault)
-    → IfOk r (λ _. fault ≢ Route.OutOfMemory) → revision ≡ length v.seen → IfOk r (λ text. text ≡ said_text (of_route fault) revision q.close) → session.Answers (api base) r q v v
-route_answers {F} base q fault (Ok text) v revision read known at t =
-    answers {F = F} base q (Err fault) (Ok text) v v (read, err_known fault known) (refused_route base q.close {F = F} fault v (of_route fault) revision (Ok text) refl at t)
-route_answers {F} base q fault (Err f) v revision read known at t = inl refl
+pub route_answers : {F : Type 0} (may_fail : Type 0) (base : List ℕ) (q : Request) (fault : RouteFault) (r : Result (List ℕ) F) (v : Visitor Entry) (revision : ℕ) → JobOf base q (Err fault)
+    → IfOk r (λ _. fault ≢ Route.OutOfMemory) → revision ≡ length v.seen → IfOk r (λ text. text ≡ said_text (of_route fault) revision q.close) → session.Answers (api_of may_fail base) r q v v
+route_answers {F} may_fail base q fault (Ok text) v revision read known at t =
+    answers {F = F} may_fail base q (Err fault) (Ok text) v v (read, err_known fault known) (refused_route may_fail base q.close {F = F} fault v (of_route fault) revision (Ok text) refl at t)
+route_answers {F} may_fail base q fault (Err f) v revision read known at t = inl refl
 
 pub not_load : (work : Work) → ((load : Load) → work ≡ Of.Load load → ⊥) → is_load work ≡ false
 not_load Of.Landing not = refl

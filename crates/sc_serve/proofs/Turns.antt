@@ -1,6 +1,6 @@
 -- The turns of a pass, and of the one pass of a catalogue that nobody else has.
 use Rattle.std.proofs.Common.{◌≡◌, ◌≢◌, ℕ, List, [], ◌∷◌, ◌++◌, length, Result, Ok, Err, refl, sym, ap, ◌∙◌, subst}
-use Rattle.std.specs.Prelude.{IfOk, IfErr, All}
+use Rattle.std.specs.Prelude.{IfOk, All}
 use Rattle.std.proofs.lemmas.List.{append-nil}
 use Rattle.std.proofs.lemmas.List.Elements.{All-nil, All-cons, All-append}
 use Rattle.sc_load.specs.declared.load.Load.{Load}
@@ -9,12 +9,11 @@ use Rattle.sc_history.specs.Taken.{Refuses}
 use Rattle.sc_history.specs.Views.{Snap}
 use Rattle.sc_catalog.specs.declared.entry.Entry.{Entry}
 use Rattle.sc_catalog.specs.declared.entry.Published.{Published}
-use Rattle.sc_catalog.specs.Entries.{by, entry_of, loads_of, IsSnapshotOf, IsTaken, Takes}
+use Rattle.sc_catalog.specs.Entries.{by, entry_of, loads_of, IsSnapshotOf, Takes}
 use Rattle.sc_catalog.specs.Holdings.{Holdings, IsPublished}
 use Rattle.sc_turn.specs.History.{Knows}
 use Rattle.sc_visit.specs.Visits.{Visitor, TakesTurn}
-use Rattle.sc_desk.specs.declared.calls.LoadRefused.{LoadRefused}
-use Rattle.sc_desk.specs.Turns.{own_of, Publishes}
+use Rattle.sc_serve.specs.declared.desk.Tried.TheVariants.{Taken}
 use Rattle.sc_serve.specs.Desks.{TakesSnapshot, TriesLoad, IsAlone}
 
 -- ---- a catalogue that nobody else has
@@ -41,7 +40,7 @@ module _ (h : Holdings) (old : Visitor Entry) (alone : IsAlone h.entries old) wh
   snaps {F} (Err fault) stands = (after old [], stays h.entries old alone, record { turn = takes [] old; is = tt })
 
   pub refuses : (load : Load) (fault : LoadFault) (revision : ℕ) → revision ≡ length h.entries → Refuses (loads_of h.entries) load fault
-      → (new : Visitor Entry) × IsAlone h.entries new × TriesLoad load (Err (record { fault = fault; revision = revision })) old new
+      → (new : Visitor Entry) × IsAlone h.entries new × TriesLoad ⊥ load (Err (record { fault = fault; revision = revision })) old new
   refuses load fault revision r is = (
     after old [],
     stays h.entries old alone,
@@ -56,7 +55,7 @@ module _ (h : Holdings) (old : Visitor Entry) (alone : IsAlone h.entries old) wh
     abbrev next : Visitor Entry
     next = after old (entry_of 1 load ∷ [])
 
-    pub takes_load : (next : Visitor Entry) × IsAlone new.entries next × TriesLoad load (Ok published.revision) old next
+    pub takes_load : (next : Visitor Entry) × IsAlone new.entries next × TriesLoad ⊥ load (Ok (Taken published.revision)) old next
     takes_load =
         let seen : next.seen ≡ new.entries = ap (λ l. l ++ entry_of 1 load ∷ []) alone.seen_is ∙ sym is.entries_are in (
           next,

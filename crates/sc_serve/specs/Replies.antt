@@ -1,5 +1,5 @@
 -- What is replied to a request, by what it was read as and by the history: its content, which loads it takes, and its length.
-use Rattle.std.specs.Prelude.{◌≡◌, ◌≢◌, ℕ, Bool, true, false, nat_lt, List, length, find, map, Option, Some, None, Result, Ok, Err}
+use Rattle.std.specs.Prelude.{◌≡◌, ◌≢◌, ◌⊎◌, ℕ, ◌<◌, Bool, true, false, nat_lt, List, length, find, map, Option, Some, None, Result, Ok, Err}
 use Rattle.sc_json.specs.Compact.{compact}
 use Rattle.sc_http.specs.declared.reply.Reply.{Reply}
 use Rattle.sc_http.specs.declared.fault.HttpEnd.{HttpEnd}
@@ -21,7 +21,7 @@ use Rattle.sc_sort.specs.Keys.{Keys}
 use Rattle.sc_page.specs.declared.links.Links.{Links}
 use Rattle.sc_page.specs.Linked.{linked_page_text}
 use Rattle.sc_page.specs.Search.{IsPage}
-use Rattle.sc_said.specs.Said.{Saying, reply_of, refusal_text, refused, json, geojson, behind, no_collection, no_item, accepted_of}
+use Rattle.sc_said.specs.Said.{Saying, reply_of, refusal_text, refused, json, geojson, behind, no_collection, no_item, accepted_of, not_stored}
 use Rattle.sc_route.specs.declared.job.Job.{Job}
 use Rattle.sc_route.specs.declared.job.Work.{Work}
 use Rattle.sc_route.specs.declared.job.Work.TheVariants as Of
@@ -112,6 +112,15 @@ abbrev pub SaysOfLoad : List Entry → Load → Bool → Saying → Type 0
 SaysOfLoad entries load true said = said ≡ accepted_of (makes load) (length entries) (count_of load)
 SaysOfLoad entries load false said = IsLoadRefused entries load said
 
+-- The load was accepted and stands in the history, but it isn't stored yet, which comes only where storing may fail. It is told how many loads are stored, which
+-- are fewer than the history has.
+pub record TellsNotStored (may_fail : Type 0) (entries : List Entry) (accepted : Bool) (said : Saying) : Type 0 where
+  pub may : may_fail
+  pub was_accepted : accepted ≡ true
+  pub stored : ℕ
+  pub fewer : stored < length entries
+  pub said_is : said ≡ not_stored stored
+
 -- ---- what is said of a job
 
 -- whether a later revision is stated
@@ -157,9 +166,13 @@ module _ (base : List ℕ) where
   SaysTo (Ok job) entries accepted said = Says (is_behind job.seen (length entries)) job.work entries accepted said
   SaysTo (Err fault) entries accepted said = said ≡ of_route fault
 
+  -- so; or a load was accepted and isn't stored, which is told then
+  abbrev pub SaysOrNotStored : Type 0 → Result Job RouteFault → List Entry → Bool → Saying → Type 0
+  SaysOrNotStored may_fail job entries accepted said = SaysTo job entries accepted said ⊎ TellsNotStored may_fail entries accepted said
+
   -- the reply says so, tells the length of the history as its revision, and ends the connection as the request asks
-  abbrev pub IsReply : Bool → Result Job RouteFault → List Entry → Bool → Reply → Type 0
-  IsReply close job entries accepted reply = (said : Saying) × SaysTo job entries accepted said × (reply ≡ reply_of said (length entries) close)
+  abbrev pub IsReply : Type 0 → Bool → Result Job RouteFault → List Entry → Bool → Reply → Type 0
+  IsReply may_fail close job entries accepted reply = (said : Saying) × SaysOrNotStored may_fail job entries accepted said × (reply ≡ reply_of said (length entries) close)
 
 -- the reply has the text of the page of all items of the history, with its links, and tells the length of the history as its revision
 pub record IsPageOf (asked : Asked) (links : Links) (entries : List Entry) (reply : Reply) : Type 0 where

@@ -18,7 +18,7 @@ use Rattle.sc_refusal.specs.declared.fault.RouteFault.{RouteFault}
 use Rattle.sc_refusal.specs.declared.fault.RouteFault.TheVariants.{OutOfMemory}
 use Rattle.sc_route.specs.Jobs.{JobOf}
 use Rattle.sc_said.specs.Said.{Saying, reply_of}
-use Rattle.sc_serve.specs.Replies.{IsReply, SaysTo, SaysOfLoad, of_end}
+use Rattle.sc_serve.specs.Replies.{IsReply, SaysOrNotStored, SaysOfLoad, TellsNotStored, of_end}
 
 -- the request is read so, and memory wasn't wanting
 abbrev pub IsReadAs : List ℕ → Request → Result Job RouteFault → Type 0
@@ -50,39 +50,43 @@ abbrev pub refusal_of : Option Saying → ℕ → Option Reply
 refusal_of None revision = None
 refusal_of (Some said) revision = Some (reply_of said revision true)
 
--- the STAC API of a catalogue at this address
-abbrev pub api : List ℕ → Service Entry Load (Result Job RouteFault)
-api base = record {
+-- the STAC API at this address of a catalogue whose loads are stored, which may fail where this holds
+abbrev pub api_of : Type 0 → List ℕ → Service Entry Load (Result Job RouteFault)
+api_of may_fail base = record {
   by = by;
   entry = entry_of;
   takes = Takes;
   reads = IsReadAs base;
   asks = asks;
-  replies = λ q job entries accepted reply. IsReply base q.close job entries accepted reply;
+  replies = λ q job entries accepted reply. IsReply base may_fail q.close job entries accepted reply;
   refusal = λ end revision. refusal_of (of_end end) revision;
 }
 
+-- the STAC API at this address of a catalogue in memory: no load is left unstored
+abbrev pub api : List ℕ → Service Entry Load (Result Job RouteFault)
+api base = api_of ⊥ base
+
 -- ---- what one request does. No public clause cites them
 
-module _ (base : List ℕ) (close : Bool) where
+module _ (may_fail : Type 0) (base : List ℕ) (close : Bool) where
   -- the request that was read so took its turns, and these are the bytes of its reply
   pub record IsDone (job : Result Job RouteFault) (text : List ℕ) (old new : Visitor Entry) : Type 0 where
     pub accepted : Bool
-    pub does : Does (api base) (asks job) accepted old new
+    pub does : Does (api_of may_fail base) (asks job) accepted old new
     pub said : Saying
-    pub says : SaysTo base job new.seen accepted said
+    pub says : SaysOrNotStored base may_fail job new.seen accepted said
     pub text_is : text ≡ reply_bytes (reply_of said (length new.seen) close)
 
   abbrev pub Handles : {F : Type 0} → Result Job RouteFault → Result (List ℕ) F → Visitor Entry → Visitor Entry → Type 0
   Handles job (Ok text) old new = IsDone job text old new
-  Handles job (Err fault) old new = GivesUp (api base) old new
+  Handles job (Err fault) old new = GivesUp (api_of may_fail base) old new
 
   -- one turn, in which the load was accepted or refused, and these are the bytes of the reply
   pub record IsTried (load : Load) (text : List ℕ) (old new : Visitor Entry) : Type 0 where
     pub accepted : Bool
-    pub publishes : Publishes (api base) load accepted old new
+    pub publishes : Publishes (api_of may_fail base) load accepted old new
     pub said : Saying
-    pub says : SaysOfLoad new.seen load accepted said
+    pub says : SaysOfLoad new.seen load accepted said ⊎ TellsNotStored may_fail new.seen accepted said
     pub text_is : text ≡ reply_bytes (reply_of said (length new.seen) close)
 
   abbrev pub Tries : {F : Type 0} → Load → Result (List ℕ) F → Visitor Entry → Visitor Entry → Type 0

@@ -48,7 +48,7 @@ fn answer_job<R, D: Desk<R>, L: Ledger>(
     close: bool,
 ) -> Result<Text, AllocError>
     requires { IsFormed job.work }
-    ensures { (begun : D) (old : Visitor CatalogueEntry) → D.stands begun desk.old old → (new : Visitor CatalogueEntry) × D.stands begun desk.new new × Handles base.now close (Ok job) result old new }
+    ensures { (begun : D) (old : Visitor CatalogueEntry) → D.stands begun desk.old old → (new : Visitor CatalogueEntry) × D.stands begun desk.new new × Handles D.may_fail base.now close (Ok job) result old new }
 {
     let Job { seen, work } = job;
     match work {
@@ -66,7 +66,7 @@ pub struct Api<'b> {
 
 impl<'b, R, D: Desk<R>, L: Ledger> Clerk<R, D, Steps<L>> for Api<'b> {
     ghost use Rattle.std.specs.Prelude.{refl};
-    ghost use Rattle.sc_serve.specs.Service.{api};
+    ghost use Rattle.sc_serve.specs.Service.{api_of};
 
     type Entry = Entry;
 
@@ -74,7 +74,7 @@ impl<'b, R, D: Desk<R>, L: Ledger> Clerk<R, D, Steps<L>> for Api<'b> {
 
     type Job = Result<Job, RouteFault>;
 
-    ghost service = { λ clerk. api clerk.base.now };
+    ghost service = { λ clerk. api_of D.may_fail clerk.base.now };
 
     ghost stands = { λ begun desk visitor. D.stands begun desk visitor };
 

@@ -2,7 +2,7 @@ ghost use Rattle.std.specs.Prelude.{◌≡◌, ◌<◌, [], All};
 ghost use Rattle.sc_catalog.specs.declared.entry.Entry.{Entry};
 ghost use Rattle.sc_visit.specs.Visits.{Visitor};
 ghost use Rattle.sc_session.specs.Session.{Session};
-ghost use Rattle.sc_serve.specs.Service.{api};
+ghost use Rattle.sc_serve.specs.Service.{api, api_of};
 ghost use Rattle.sc_serve.specs.Desks.{IsAlone};
 ghost use Rattle.sc_serve.specs.Notices.{TellsOfLoads};
 
@@ -22,7 +22,7 @@ use std::sync::Wait;
 use std::sync::ledger::{Blank, Ledger};
 
 /// Serves one connection by turns at a desk. What searches cost is counted over the ledger that is handed in.
-fn serve_desk<R, D: Desk<R>, S: Source, K: Sink, L: Ledger>(
+fn serve_counting<R, D: Desk<R>, S: Source, K: Sink, L: Ledger>(
     rt: &R,
     alloc: Global,
     desk: &mut D,
@@ -34,8 +34,8 @@ fn serve_desk<R, D: Desk<R>, S: Source, K: Sink, L: Ledger>(
     requires name { blank.name ≡ L.name }
     requires parts { blank.parts ≡ L.parts }
     requires some { 0 < blank.parts }
-    ensures { (old : Visitor Entry) → D.stands desk.old desk.old old → (new : Visitor Entry) × D.stands desk.old desk.new new ×
-        Session (api base.now)
+    ensures { (begun : D) (old : Visitor Entry) → D.stands begun desk.old old → (new : Visitor Entry) × D.stands begun desk.new new ×
+        Session (api_of D.may_fail base.now)
         (record { left = S.left source.old; ended = S.ended source.old; faults = S.faults source.old; written = K.written sink.old; write_faults = K.faults sink.old; visitor = old })
         (record { left = S.left source.new; ended = S.ended source.new; faults = S.faults source.new; written = K.written sink.new; write_faults = K.faults sink.new; visitor = new })
         result }
@@ -53,6 +53,32 @@ fn serve_desk<R, D: Desk<R>, S: Source, K: Sink, L: Ledger>(
             sink,
         ),
     }
+}
+
+/// Serves one connection by turns at a desk, up to the first request that asks to close. The base is the address of the
+/// catalogue without a slash at its end. It waits where the desk's turns do, and answers outside of them.
+pub fn serve_desk<R, D: Desk<R>, S: Source, K: Sink>(
+    rt: &R,
+    alloc: Global,
+    desk: &mut D,
+    base: &Text,
+    source: &mut S,
+    sink: &mut K,
+) -> ConnEnd
+    ensures session { (old : Visitor Entry) → D.stands desk.old desk.old old → (new : Visitor Entry) × D.stands desk.old desk.new new ×
+        Session (api_of D.may_fail base.now)
+        (record { left = S.left source.old; ended = S.ended source.old; faults = S.faults source.old; written = K.written sink.old; write_faults = K.faults sink.old; visitor = old })
+        (record { left = S.left source.new; ended = S.ended source.new; faults = S.faults source.new; written = K.written sink.new; write_faults = K.faults sink.new; visitor = new })
+        result }
+
+    // The same, of a pass that has served other connections since it began.
+    ensures chained { (begun : D) (old : Visitor Entry) → D.stands begun desk.old old → (new : Visitor Entry) × D.stands begun desk.new new ×
+        Session (api_of D.may_fail base.now)
+        (record { left = S.left source.old; ended = S.ended source.old; faults = S.faults source.old; written = K.written sink.old; write_faults = K.faults sink.old; visitor = old })
+        (record { left = S.left source.new; ended = S.ended source.new; faults = S.faults source.new; written = K.written sink.new; write_faults = K.faults sink.new; visitor = new })
+        result }
+{
+    serve_counting::<R, D, S, K, Brand>(rt, alloc, desk, base, source, sink, Blank::new(1))
 }
 
 /// Serves one connection by turns of a pass at the desk of a catalogue, up to the first request that asks to close. The base
@@ -80,14 +106,8 @@ pub fn serve_connection<'p, 'd, 'q, 'n, 'g, R: Wait, S: Source, K: Sink, G: Gate
         notices,
         gate,
     };
-    serve_desk::<R, NotifyingPass<'p, 'd, 'q, 'n, 'g, G>, S, K, Brand>(
-        rt,
-        alloc,
-        &mut desk,
-        base,
-        source,
-        sink,
-        Blank::new(1),
+    serve_desk::<R, NotifyingPass<'p, 'd, 'q, 'n, 'g, G>, S, K>(
+        rt, alloc, &mut desk, base, source, sink,
     )
 }
 
@@ -101,14 +121,8 @@ pub fn pipe<S: Source, K: Sink>(alloc: Global, base: &Text, source: &mut S, sink
 {
     match LoneDesk::new(alloc) {
         Err(_) => give_up(sink),
-        Ok(mut desk) => serve_desk::<(), LoneDesk, S, K, Brand>(
-            &(),
-            alloc,
-            &mut desk,
-            base,
-            source,
-            sink,
-            Blank::new(1),
-        ),
+        Ok(mut desk) => {
+            serve_desk::<(), LoneDesk, S, K>(&(), alloc, &mut desk, base, source, sink)
+        }
     }
 }

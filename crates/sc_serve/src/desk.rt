@@ -8,8 +8,20 @@ use sc_catalog::{Load, Snapshot};
 use sc_desk::LoadRefused;
 use std::alloc::{AllocError, Global};
 
+/// What came of a load that the history takes.
+#[derive(Clone, Copy, Debug, PartialEq, Eq)]
+pub enum Tried {
+    /// The history is so long with it.
+    Taken { revision: u64 },
+    /// The same, but it isn't stored yet, since that failed. So many loads of the history are.
+    NotStored { revision: u64, stored: u64 },
+}
+
 /// A pass with which turns are taken at a catalogue. `R` is what the turns wait by, if they wait at all.
 pub trait Desk<R> {
+    /// Storing a load may fail. Where nothing is stored it can't.
+    ghost may_fail: { Type 0 };
+
     /// This is seen of the pass, which was as the first of the two when its connection began.
     ghost stands: { Self → Self → Visitor Entry → Type 0 };
 
@@ -22,8 +34,8 @@ pub trait Desk<R> {
         ensures { (begun : Self) (old : Visitor Entry) → stands begun self.old old → (new : Visitor Entry) × stands begun self.new new × TakesSnapshot result old new };
 
     /// Publishes a load in one turn: it is the one entry that the turn adds, by the number of the pass, or it is refused.
-    /// Gives the length of the history with the load.
-    fn publish(&mut self, rt: &R, alloc: Global, load: Load) -> Result<u64, LoadRefused>
+    /// Gives the length of the history with the load, and whether the load is stored.
+    fn publish(&mut self, rt: &R, alloc: Global, load: Load) -> Result<Tried, LoadRefused>
         requires { IsWellFormed load }
-        ensures { (begun : Self) (old : Visitor Entry) → stands begun self.old old → (new : Visitor Entry) × stands begun self.new new × TriesLoad load result old new };
+        ensures { (begun : Self) (old : Visitor Entry) → stands begun self.old old → (new : Visitor Entry) × stands begun self.new new × TriesLoad may_fail load result old new };
 }

@@ -11,7 +11,8 @@ mod lone;
 mod notifying;
 mod reading;
 
-pub use connection::{pipe, serve_connection};
-pub use desk::Desk;
+pub use connection::{pipe, serve_connection, serve_desk};
+pub use desk::{Desk, Tried};
 pub use lone::LoneDesk;
+pub use notifying::NotifyingPass;
 pub use sc_session::ConnEnd;

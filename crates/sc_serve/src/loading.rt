@@ -3,10 +3,13 @@ ghost use Rattle.sc_load.specs.Load.{IsWellFormed};
 ghost use Rattle.sc_catalog.specs.declared.entry.Entry.{Entry};
 ghost use Rattle.sc_visit.specs.Visits.{Visitor};
 ghost use Rattle.sc_route.specs.declared.job.Work.TheVariants as Of;
+ghost use Rattle.sc_http.specs.Reply.{reply_bytes};
+ghost use Rattle.sc_said.specs.Said.{reply_of};
+ghost use Rattle.sc_serve.specs.Desks.{revision_of, said_of_tried};
 ghost use Rattle.sc_serve.specs.Replies.{makes, count_of};
 ghost use Rattle.sc_serve.specs.Service.{Handles, Tries};
 
-use crate::desk::Desk;
+use crate::desk::{Desk, Tried};
 use crate::faults::said_of_load;
 use sc_base::Text;
 use sc_load::Load;
@@ -38,7 +41,18 @@ fn count_of(load: &Load) -> u64
     }
 }
 
-/// Publishes a load in one turn, and gives the bytes of the reply. Where it is accepted no memory is taken behind the turn.
+/// The bytes of the reply to a load that the history takes.
+fn tried_text(room: LoadRoom, tried: Tried, made: bool, items: u64, close: bool) -> Text
+    ensures { result ≡ reply_bytes (reply_of (said_of_tried made items tried) (revision_of tried) close) }
+{
+    match tried {
+        Tried::Taken { revision } => room.text(made, revision, items, close),
+        Tried::NotStored { revision, stored } => room.not_stored(stored, revision, close),
+    }
+}
+
+/// Publishes a load in one turn, and gives the bytes of the reply. Where it is accepted, stored or not, no memory is taken
+/// behind the turn.
 fn try_load<R, D: Desk<R>>(
     rt: &R,
     alloc: Global,
@@ -47,13 +61,13 @@ fn try_load<R, D: Desk<R>>(
     close: bool,
 ) -> Result<Text, AllocError>
     requires { IsWellFormed load }
-    ensures { (base : List ℕ) (begun : D) (old : Visitor Entry) → D.stands begun desk.old old → (new : Visitor Entry) × D.stands begun desk.new new × Tries base close load result old new }
+    ensures { (base : List ℕ) (begun : D) (old : Visitor Entry) → D.stands begun desk.old old → (new : Visitor Entry) × D.stands begun desk.new new × Tries D.may_fail base close load result old new }
 {
     let made = makes(&load);
     let items = count_of(&load);
     let room = LoadRoom::new(alloc)?;
     match desk.publish(rt, alloc, load) {
-        Ok(revision) => Ok(room.text(made, revision, items, close)),
+        Ok(tried) => Ok(tried_text(room, tried, made, items, close)),
         Err(refused) => {
             let said = said_of_load(alloc, refused.fault)?;
             reply_text(alloc, said, refused.revision, close)
@@ -72,7 +86,7 @@ fn load_from<R, D: Desk<R>>(
 ) -> Result<Text, AllocError>
     requires { IsWellFormed load }
     ensures { (base : List ℕ) (begun : D) (old : Visitor Entry) → D.stands begun desk.old old → (new : Visitor Entry) × D.stands begun desk.new new ×
-        Handles base close (Ok (record { seen = Some stated; work = Of.Load load })) result old new }
+        Handles D.may_fail base close (Ok (record { seen = Some stated; work = Of.Load load })) result old new }
 {
     let snapshot = desk.take_snapshot(rt, alloc)?;
     let revision = snapshot.revision();
@@ -94,7 +108,7 @@ pub fn answer_load<R, D: Desk<R>>(
 ) -> Result<Text, AllocError>
     requires { IsWellFormed load }
     ensures { (base : List ℕ) (begun : D) (old : Visitor Entry) → D.stands begun desk.old old → (new : Visitor Entry) × D.stands begun desk.new new ×
-        Handles base close (Ok (record { seen = seen; work = Of.Load load })) result old new }
+        Handles D.may_fail base close (Ok (record { seen = seen; work = Of.Load load })) result old new }
 {
     match seen {
         None => try_load(rt, alloc, desk, load, close),

@@ -1,6 +1,6 @@
 ghost use Rattle.std.specs.Prelude.{◌≡◌, [], IfOk};
 
-use crate::desk::Desk;
+use crate::desk::{Desk, Tried};
 use sc_catalog::{Catalogue, Load, Snapshot};
 use sc_desk::LoadRefused;
 use std::alloc::{AllocError, Global};
@@ -25,6 +25,8 @@ impl LoneDesk {
 impl Desk<()> for LoneDesk {
     ghost use Rattle.sc_serve.specs.Desks.{IsAlone};
 
+    ghost may_fail = { ⊥ };
+
     ghost stands = { λ _ desk visitor. IsAlone desk.catalogue.entries visitor };
 
     fn seen(&self) -> u64 {
@@ -35,10 +37,12 @@ impl Desk<()> for LoneDesk {
         self.catalogue.snapshot(alloc)
     }
 
-    fn publish(&mut self, _rt: &(), alloc: Global, load: Load) -> Result<u64, LoadRefused> {
+    fn publish(&mut self, _rt: &(), alloc: Global, load: Load) -> Result<Tried, LoadRefused> {
         let revision = self.catalogue.revision();
         match self.catalogue.publish(alloc, 1, load) {
-            Ok(published) => Ok(published.revision),
+            Ok(published) => Ok(Tried::Taken {
+                revision: published.revision,
+            }),
             Err(fault) => Err(LoadRefused { fault, revision }),
         }
     }

@@ -2,7 +2,7 @@
 ghost use Rattle.std.specs.Prelude.{◌≡◌};
 ghost use Rattle.sc_serve.specs.Notices.{AreTold};
 
-use crate::desk::Desk;
+use crate::desk::{Desk, Tried};
 use sc_catalog::{Load, PartName, Snapshot};
 use sc_desk::{DeskPass, LoadRefused, publish, take_snapshot};
 use sc_notice::{Notice, NoticePass, tell};
@@ -33,6 +33,8 @@ impl<'p, 'd, 'q, 'n, 'g, R: Wait, G: Gate> Desk<R> for NotifyingPass<'p, 'd, 'q,
     ghost use Rattle.std.specs.Prelude.{◌≡◌};
     ghost use Rattle.sc_serve.specs.Notices.{TellsOfLoads};
 
+    ghost may_fail = { ⊥ };
+
     ghost stands = { λ begun now visitor.
         (now.pass.ghost_name ≡ begun.pass.ghost_name) × (now.notices.ghost_name ≡ begun.notices.ghost_name) × (visitor ≡ now.pass.now) × TellsOfLoads begun.pass.now now.pass.now begun.notices.now now.notices.now };
 
@@ -46,13 +48,13 @@ impl<'p, 'd, 'q, 'n, 'g, R: Wait, G: Gate> Desk<R> for NotifyingPass<'p, 'd, 'q,
         snapshot
     }
 
-    fn publish(&mut self, rt: &R, alloc: Global, load: Load) -> Result<u64, LoadRefused> {
+    fn publish(&mut self, rt: &R, alloc: Global, load: Load) -> Result<Tried, LoadRefused> {
         match publish(rt, alloc, self.pass, load) {
             Err(refused) => Err(refused),
             Ok(published) => {
                 let revision = published.revision;
                 tell_all(rt, self.notices, published.touched.into_vec());
-                Ok(revision)
+                Ok(Tried::Taken { revision })
             }
         }
     }

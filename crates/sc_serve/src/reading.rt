@@ -242,7 +242,7 @@ fn answer_by_snapshot<R, D: Desk<R>, L: Ledger>(
     requires read { is_load work.now ≡ false }
     requires looks { asks_of work.now seen ≡ Look }
     ensures { (begun : D) (old : Visitor Entry) → D.stands begun desk.old old → (new : Visitor Entry) × D.stands begun desk.new new ×
-        Handles base.now close (Ok (record { seen = seen; work = work.now })) result old new }
+        Handles D.may_fail base.now close (Ok (record { seen = seen; work = work.now })) result old new }
 {
     let snapshot = desk.take_snapshot(rt, alloc)?;
     let said = say_from(alloc, base, &snapshot, steps, seen, work)?;
@@ -261,7 +261,7 @@ fn answer_unstated<R, D: Desk<R>, L: Ledger>(
 ) -> Result<Text, AllocError>
     requires { is_load work.now ≡ false }
     ensures { (begun : D) (old : Visitor Entry) → D.stands begun desk.old old → (new : Visitor Entry) × D.stands begun desk.new new ×
-        Handles base.now close (Ok (record { seen = None; work = work.now })) result old new }
+        Handles D.may_fail base.now close (Ok (record { seen = None; work = work.now })) result old new }
 {
     let fixed = fixed_text(alloc, base, work)?;
     match fixed {
@@ -286,7 +286,7 @@ pub fn answer_read<R, D: Desk<R>, L: Ledger>(
 ) -> Result<Text, AllocError>
     requires { is_load work.now ≡ false }
     ensures { (begun : D) (old : Visitor Entry) → D.stands begun desk.old old → (new : Visitor Entry) × D.stands begun desk.new new ×
-        Handles base.now close (Ok (record { seen = seen; work = work.now })) result old new }
+        Handles D.may_fail base.now close (Ok (record { seen = seen; work = work.now })) result old new }
 {
     match seen {
         None => answer_unstated(rt, alloc, base, desk, steps, work, close),

@@ -13,5 +13,5 @@ returns-in-Err g c old alone =
 
 pub returns-in-Ok : goal.returns-in-Ok
 returns-in-Ok g c old alone =
-    let x = c.serve_desk.ensures old (subst (λ entries. IsAlone entries old) (sym c.in-Ok.ensures) alone) in
+    let x = c.serve_desk.ensures.session old (subst (λ entries. IsAlone entries old) (sym c.in-Ok.ensures) alone) in
     (x.0, x.1.own, x.2)

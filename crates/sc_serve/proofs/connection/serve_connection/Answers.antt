@@ -1,4 +1,4 @@
-use Rattle.std.proofs.Common.{◌≡◌, refl, rules, subst, sym}
+use Rattle.std.proofs.Common.{refl, rules, subst}
 use Rattle.sc_catalog.specs.declared.entry.Entry.{Entry}
 use Rattle.sc_visit.specs.Visits.{Visitor}
 use Rattle.sc_session.specs.Session.{Place, Session}
@@ -11,7 +11,7 @@ pub returns-clause-session : goal.returns-clause-session
 returns-clause-session g c =
     let r = g.S.Source in
     let o = g.K.Sink in
-    let x = c.serve_desk.ensures c.args.pass.now (refl, refl, refl, tells_nothing c.args.pass.now c.args.notices.now) in
+    let x = c.serve_desk.ensures.session c.args.pass.now (refl, refl, refl, tells_nothing c.args.pass.now c.args.notices.now) in
     let first : Place Entry = record {
       left = r.left c.args.source.now;
       ended = r.ended c.args.source.now;
@@ -34,7 +34,7 @@ returns-clause-session g c =
 
 pub returns-clause-told : goal.returns-clause-told
 returns-clause-told g c =
-    let x = c.serve_desk.ensures c.args.pass.now (refl, refl, refl, tells_nothing c.args.pass.now c.args.notices.now) in
+    let x = c.serve_desk.ensures.session c.args.pass.now (refl, refl, refl, tells_nothing c.args.pass.now c.args.notices.now) in
     let pass = x.1.0 in
     let notices = x.1.1 in
     let told : TellsOfLoads c.args.pass.now c.serve_desk.new.desk.pass.now c.args.notices.now c.serve_desk.new.desk.notices.now = x.1.3 in

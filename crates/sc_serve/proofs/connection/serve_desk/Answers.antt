@@ -1,11 +1,7 @@
-use Rattle.std.proofs.Common.{[], inl, refl}
-use Rattle.sc_http.specs.Intake.{nothing_held}
-use Rattle.sc_session.proofs.Known.{consumes_none}
-use Rattle.sc_session.proofs.Steps.{nothing_yet, ends_wanting}
-use Rattle.sc_serve.specs.Service.{api}
 use Rattle.sc_serve.proofs.connection.serve_desk.Goals as goal
 
-pub returns-in-Err : goal.returns-in-Err
-returns-in-Err g c old stands =
-    let service = api c.args.base.now in
-    (old, stands, rw c.give_up.ensures.result (ends_wanting service _ _ _ nothing_held (nothing_yet service _) [] (consumes_none _) (inl refl) c.give_up.ensures.wrote))
+pub returns-clause-session : goal.returns-clause-session
+returns-clause-session g c old stands = c.serve_counting.ensures c.args.desk.now old stands
+
+pub returns-clause-chained : goal.returns-clause-chained
+returns-clause-chained g c begun old stands = c.serve_counting.ensures begun old stands

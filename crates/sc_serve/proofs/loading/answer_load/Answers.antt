@@ -9,11 +9,11 @@ returns-in-None g c base begun old stands =
     let y = c.try_load.ensures base begun old stands in (
       y.0,
       y.1,
-      subst (λ s. Handles base c.args.close (Ok (record { seen = s; work = Of.Load c.args.load })) c.try_load.result old y.0) (sym c.in-None.is)
-          (tried base c.args.close c.args.load c.try_load.result old y.0 y.2),
+      subst (λ s. Handles g.D.Desk.may_fail base c.args.close (Ok (record { seen = s; work = Of.Load c.args.load })) c.try_load.result old y.0) (sym c.in-None.is)
+          (tried g.D.Desk.may_fail base c.args.close c.args.load c.try_load.result old y.0 y.2),
     )
 
 pub returns-in-Some : goal.returns-in-Some
 returns-in-Some g c base begun old stands =
     let y = c.load_from.ensures base begun old stands in
-    (y.0, y.1, subst (λ s. Handles base c.args.close (Ok (record { seen = s; work = Of.Load c.args.load })) c.load_from.result old y.0) (sym c.in-Some.is) y.2)
+    (y.0, y.1, subst (λ s. Handles g.D.Desk.may_fail base c.args.close (Ok (record { seen = s; work = Of.Load c.args.load })) c.load_from.result old y.0) (sym c.in-Some.is) y.2)

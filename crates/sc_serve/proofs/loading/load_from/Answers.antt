@@ -16,7 +16,7 @@ returns-then-revision-stated g c base begun old stands =
     let x = c.in_ok-snapshot.ensures begun old stands in (
       x.0,
       x.1,
-      is_told_behind base c.args.close c.args.stated c.args.load old x.0 x.2.turn c.reply_text.result c.revision-revision.result c.if-revision-stated.true (c.revision-revision.ensures.revision ∙ x.2.is.revision_is)
+      is_told_behind g.D.Desk.may_fail base c.args.close c.args.stated c.args.load old x.0 x.2.turn c.reply_text.result c.revision-revision.result c.if-revision-stated.true (c.revision-revision.ensures.revision ∙ x.2.is.revision_is)
           (IfOk-weaker c.reply_text.result _ _ (λ text t. t ∙ ap (λ said. said_text said c.revision-revision.result c.args.close) c.in_ok-said.ensures) c.reply_text.ensures),
     )
 
@@ -24,4 +24,4 @@ pub returns : goal.returns
 returns g c base begun old stands =
     let x = c.in_ok-snapshot.ensures begun old stands in
     let y = c.try_load.ensures base begun x.0 x.1 in
-    (y.0, y.1, tried_from base c.args.close c.args.stated c.args.load old x.0 x.2.turn c.try_load.result y.0 (omega (arith, c.if-revision-stated.false, c.revision-revision.ensures.revision, x.2.is.revision_is)) y.2)
+    (y.0, y.1, tried_from g.D.Desk.may_fail base c.args.close c.args.stated c.args.load old x.0 x.2.turn c.try_load.result y.0 (omega (arith, c.if-revision-stated.false, c.revision-revision.ensures.revision, x.2.is.revision_is)) y.2)

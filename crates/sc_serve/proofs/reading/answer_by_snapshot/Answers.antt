@@ -18,6 +18,6 @@ returns g c begun old stands =
     let x = c.in_ok-snapshot.ensures begun old stands in (
       x.0,
       x.1,
-      looked c.args.base.now c.args.close c.args.seen c.args.work.now old x.0 c.in_ok-said.said c.revision.result c.reply_text.result x.2.turn c.requires.looks
+      looked g.D.Desk.may_fail c.args.base.now c.args.close c.args.seen c.args.work.now old x.0 c.in_ok-said.said c.revision.result c.reply_text.result x.2.turn c.requires.looks
           (c.revision.ensures.revision ∙ x.2.is.revision_is) (c.in_ok-said.ensures x.0.seen x.2.is) c.reply_text.ensures,
     )

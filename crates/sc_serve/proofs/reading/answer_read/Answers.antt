@@ -9,9 +9,9 @@ answer_by_snapshot-requires-clause-looks g c = looks_from c.args.work.now c.in-S
 pub returns-in-None : goal.returns-in-None
 returns-in-None g c begun old stands =
     let y = c.answer_unstated.ensures begun old stands in
-    (y.0, y.1, subst (λ s. Handles c.args.base.now c.args.close (Ok (record { seen = s; work = c.args.work.now })) c.answer_unstated.result old y.0) (sym c.in-None.is) y.2)
+    (y.0, y.1, subst (λ s. Handles g.D.Desk.may_fail c.args.base.now c.args.close (Ok (record { seen = s; work = c.args.work.now })) c.answer_unstated.result old y.0) (sym c.in-None.is) y.2)
 
 pub returns-in-Some : goal.returns-in-Some
 returns-in-Some g c begun old stands =
     let y = c.answer_by_snapshot.ensures begun old stands in
-    (y.0, y.1, subst (λ s. Handles c.args.base.now c.args.close (Ok (record { seen = s; work = c.args.work.now })) c.answer_by_snapshot.result old y.0) (sym c.in-Some.is) y.2)
+    (y.0, y.1, subst (λ s. Handles g.D.Desk.may_fail c.args.base.now c.args.close (Ok (record { seen = s; work = c.args.work.now })) c.answer_by_snapshot.result old y.0) (sym c.in-Some.is) y.2)

@@ -12,7 +12,7 @@ pub returns-in-Some : goal.returns-in-Some
 returns-in-Some g c begun old stands = (
   old,
   stands,
-  fixed_said c.args.base.now c.args.close c.args.work.now old c.in-Some.text c.seen.result c.reply_text.result (sym c.in-Some.is ∙ c.in_ok-fixed.ensures) (c.seen.ensures begun old stands)
+  fixed_said g.D.Desk.may_fail c.args.base.now c.args.close c.args.work.now old c.in-Some.text c.seen.result c.reply_text.result (sym c.in-Some.is ∙ c.in_ok-fixed.ensures) (c.seen.ensures begun old stands)
       (IfOk-weaker c.reply_text.result _ _ (λ text t. t ∙ ap (λ said. said_text said c.seen.result c.args.close) c.of-said.ensures) c.reply_text.ensures),
 )
 

@@ -1,4 +1,0 @@
-use Rattle.sc_serve.proofs.connection.pipe.Given as goal
-
-abbrev pub ghosts-serve_desk : goal.ghosts-serve_desk
-ghosts-serve_desk g a = record { name = a.blank.name; parts = a.blank.parts }
