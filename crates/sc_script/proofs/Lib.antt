@@ -1,0 +1,2 @@
+mod Goods
+mod Reading
