@@ -5,4 +5,5 @@ pub mod Lists
 pub mod Steps
 pub mod Remembered
 pub mod Looking
+pub mod Gates
 pub mod Openings

@@ -2,11 +2,11 @@
 use Rattle.std.proofs.Common.{◌≡◌, ℕ, ◌+◌, ◌≤◌, List, ◌++◌, length, take, drop, refl, sym, ◌∙◌, ap, arith, length-append, take-append-drop}
 use Rattle.std.proofs.lemmas.List.{take-take, drop-take, take_all}
 use Rattle.sc_journal.specs.Disk.{Same, Gains, Observed}
-use Rattle.sc_journal.proofs.Tears.{started, goes_on}
+use Rattle.sc_journal.proofs.Tears.{started, goes_on, both, weaker}
 
 -- ---- bytes
 
-take_more : (m n : ℕ) (xs : List ℕ) → take (m + n) xs ≡ take m xs ++ take n (drop m xs)
+pub take_more : (m n : ℕ) (xs : List ℕ) → take (m + n) xs ≡ take m xs ++ take n (drop m xs)
 take_more m n xs =
     sym (take-append-drop m (take (m + n) xs)) ∙ (λ i. take-take m (m + n) xs (omega arith) i ++ drop-take m n xs i)
 
@@ -42,4 +42,19 @@ module _ {D : Type 0} (tells : D → Type 0) (reads : D → List ℕ) (may_leave
     };
     any_moment = λ t. goes_on clock left_since old mid new (may_leave old) (may_leave new) so_far.later (so_far.any_moment (told t)) (since t) (λ f is. (so_far.crash (told t)).none_new f ((crash t).none_new f is));
     later = omega (arith, so_far.later, later);
+  }
+
+  -- two looks are one
+  pub observed_then : (old mid new : D) → Observed tells reads may_leave clock left_since old mid → Observed tells reads may_leave clock left_since mid new → Observed tells reads may_leave clock left_since old new
+  observed_then old mid new first second = record {
+    told = λ t. first.told (second.told t);
+    reads_same = λ t. second.reads_same t ∙ first.reads_same (second.told t);
+    crash = λ t. record {
+      none_lost = λ f is. (second.crash t).none_lost f ((first.crash (second.told t)).none_lost f is);
+      none_new = λ f is. (first.crash (second.told t)).none_new f ((second.crash t).none_new f is);
+    };
+    any_moment = λ t.
+        both clock left_since old mid new (may_leave old) first.later (first.any_moment (second.told t))
+        (weaker clock left_since mid new (may_leave mid) (may_leave old) (λ f is. (first.crash (second.told t)).none_new f is) (second.any_moment t));
+    later = omega (arith, first.later, second.later);
   }

@@ -4,4 +4,5 @@ pub mod Images
 pub mod Journal
 pub mod Memory
 pub mod Opening
+pub mod Reading
 pub mod Recorded

@@ -52,6 +52,15 @@ pub trait Disk {
         ensures clock { clock self.old ≤ clock self.new }
         ensures cause { HasCause (faults self.old) (faults self.new) result };
 
+    /// Ends a run of reads. A disk that shows how far reading is stops here.
+    fn end_reading(&mut self)
+        ensures told { tells self.new → tells self.old }
+        ensures reads { tells self.new → reads self.new ≡ reads self.old }
+        ensures crash { tells self.new → Same (may_leave self.old) (may_leave self.new) }
+        ensures since { tells self.new → Gains (clock self.old) (left_since self.old) (left_since self.new) (may_leave self.new) }
+        ensures clock { clock self.old ≤ clock self.new }
+        ensures faults { faults self.old ≤ faults self.new };
+
     /// Writes over what is there and past the end. Where the place is past the end, any bytes may stand between the two.
     fn write_at(&mut self, at: u64, bytes: &[u8]) -> Result<(), Failed>
         ensures reads { tells self.new → MatchResult result (λ _. Written at bytes.now (reads self.old) (reads self.new)) (λ _. Torn at (length bytes.now) (reads self.old) (reads self.new)) }

@@ -2,9 +2,10 @@ ghost use Rattle.std.specs.Prelude.{◌≤◌, length, IfSome};
 ghost use Rattle.sc_outside.specs.Causes.{Rose};
 
 use crate::Disk;
+use crate::progress::Progress;
 use sc_outside::Failed;
 use std::fs::File;
-use std::io::ErrorKind;
+use std::io::{ErrorKind, Stderr};
 use std::os::unix::fs::FileExt;
 
 /// A file of the system as a disk. It tells nothing of its bytes: that they outlive a crash as those of a disk that tells do
@@ -13,6 +14,7 @@ use std::os::unix::fs::FileExt;
 pub struct FileDisk {
     file: Option<File>,
     faults: u64,
+    progress: Progress,
 }
 
 impl FileDisk {
@@ -21,6 +23,16 @@ impl FileDisk {
         FileDisk {
             file: Some(file),
             faults: 0,
+            progress: Progress::untold(),
+        }
+    }
+
+    /// The same, which tells the standard error how far it is while a journal is opened, where that is a terminal.
+    pub fn telling(file: File, errors: Stderr) -> FileDisk {
+        FileDisk {
+            file: Some(file),
+            faults: 0,
+            progress: Progress::told_to(errors),
         }
     }
 
@@ -29,6 +41,7 @@ impl FileDisk {
         FileDisk {
             file: None,
             faults: 0,
+            progress: Progress::untold(),
         }
     }
 
@@ -103,16 +116,26 @@ impl Disk for FileDisk {
 
     fn len(&mut self) -> Result<u64, Failed> {
         match file_len(&self.file) {
-            Some(len) => Ok(len),
+            Some(len) => {
+                self.progress.begin(len);
+                Ok(len)
+            }
             None => Err(self.fault()),
         }
     }
 
     fn read_at(&mut self, at: u64, buf: &mut [u8]) -> Result<usize, Failed> {
         match file_read(&self.file, at, buf) {
-            Some(count) => Ok(count),
+            Some(count) => {
+                self.progress.read_to(at.saturating_add(count as u64));
+                Ok(count)
+            }
             None => Err(self.fault()),
         }
+    }
+
+    fn end_reading(&mut self) {
+        self.progress.end();
     }
 
     fn write_at(&mut self, at: u64, bytes: &[u8]) -> Result<(), Failed> {

@@ -96,6 +96,9 @@ impl Disk for MemDisk {
         Ok(copy_from(self.recorded.bytes(), at, buf))
     }
 
+    #[tactic(auto, using(crate::proofs::Remembered::gains_none))]
+    fn end_reading(&mut self) {}
+
     fn write_at(&mut self, at: u64, bytes: &[u8]) -> Result<(), Failed> {
         match self.failing.next() {
             Ok(()) => {

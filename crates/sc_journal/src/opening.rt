@@ -1,15 +1,16 @@
-ghost use Rattle.std.specs.Prelude.{◌≡◌, ◌≤◌, ◌<◌, ℕ, List, length, true, false, IfOk, IfErr, OnErr};
+ghost use Rattle.std.specs.Prelude.{◌≡◌, ◌*◌, ◌≤◌, ◌<◌, ℕ, List, [], length, IfOk, IfErr};
 ghost use Rattle.sc_outside.specs.Causes.{Rose};
-ghost use Rattle.sc_journal.specs.Disk.{LeavesOnly, Observed};
-ghost use Rattle.sc_journal.specs.Format.{frames, AllFit, HasRecords, IsBroken, IsClosed, SameRecords};
+ghost use Rattle.sc_journal.specs.Disk.{LeavesOnly};
+ghost use Rattle.sc_journal.specs.Format.{HasRecords, IsBroken, SameRecords};
 ghost use Rattle.sc_journal.specs.Journal.{Holds};
-ghost use Rattle.sc_journal.specs.Opening.{Faulted, IsBad};
+ghost use Rattle.sc_journal.specs.Opening.{Faulted, IsBad, IsFound, IsOpened, StopsAt};
 ghost use Rattle.sc_journal.specs.declared.journal.LastAppend.TheVariants.{Stored};
 ghost use Rattle.sc_journal.specs.declared.fault.OpenFault.TheVariants.{DiskFault, BadRecord};
 
-use crate::reading::{Found, records_in};
+use crate::reading::{Found, read_records};
 use crate::store::store;
-use crate::{Disk, Journal, LastAppend, OpenFault, Sealed};
+use crate::taking::Collector;
+use crate::{Disk, Journal, LastAppend, OpenFault, Sealed, TakeRecords};
 use sc_base::Seq;
 use std::alloc::Global;
 
@@ -28,8 +29,14 @@ pub struct OpenRefused<D> {
     pub records: Seq<Sealed>,
 }
 
-/// Opens the journal on a disk, whatever a crash left there. It syncs first. Where the file has at most one byte, it writes a
-/// closed gate at its front and syncs.
+/// Why a journal wasn't opened, with its disk.
+#[derive(Drop)]
+pub struct NotOpened<D> {
+    pub fault: OpenFault,
+    pub disk: D,
+}
+
+/// Opens the journal on a disk, whatever a crash left there, and keeps its records. It does what `open_into` does.
 pub fn open<D: Disk>(alloc: Global, disk: D) -> Result<Opened<D>, OpenRefused<D>>
     // The records are those of the file, and the journal holds them.
     ensures records { IfOk result (λ o. D.tells o.journal.disk → HasRecords (D.reads disk) o.records) }
@@ -52,37 +59,25 @@ pub fn open<D: Disk>(alloc: Global, disk: D) -> Result<Opened<D>, OpenRefused<D>
     ensures faults { IfOk result (λ o. D.faults disk ≤ D.faults o.journal.disk) }
     ensures faults_err { IfErr result (λ r. D.faults disk ≤ D.faults r.disk) }
 {
-    let mut disk = disk;
-    match find(alloc, &mut disk) {
-        Ok(
-            Found {
-                records,
-                place,
-                whole: true,
-            },
-        ) => {
-            let journal = Journal {
+    let mut taker = Collector {
+        records: Vec::new(alloc),
+    };
+    match open_into(alloc, disk, &mut taker) {
+        Ok(journal) => Ok(Opened {
+            journal,
+            records: Seq::of(taker.records),
+        }),
+        Err(
+            NotOpened {
+                fault: OpenFault::BadRecord { n },
                 disk,
-                place: place as u64,
-                count: records.len() as u64,
-                last: LastAppend::Stored,
-            };
-            Ok(Opened { journal, records })
-        }
-        Ok(
-            Found {
-                records,
-                whole: false,
-                ..
             },
         ) => Err(OpenRefused {
-            fault: OpenFault::BadRecord {
-                n: records.len() as u64,
-            },
+            fault: OpenFault::BadRecord { n },
             disk,
-            records,
+            records: Seq::of(taker.records),
         }),
-        Err(fault) => Err(OpenRefused {
+        Err(NotOpened { fault, disk }) => Err(OpenRefused {
             fault,
             disk,
             records: Seq::new(alloc),
@@ -90,12 +85,67 @@ pub fn open<D: Disk>(alloc: Global, disk: D) -> Result<Opened<D>, OpenRefused<D>
     }
 }
 
-/// Syncs, makes a gate where the file has none, and finds the records.
-fn find<D: Disk>(alloc: Global, disk: &mut D) -> Result<Found, OpenFault>
-    ensures place { IfOk result (λ found. found.place ≡ length (frames found.records)) }
-    ensures fits { IfOk result (λ found. AllFit found.records) }
-    ensures whole { D.tells disk.new → IfOk result (λ found. found.whole ≡ true → HasRecords (D.reads disk.old) found.records × ((file : List ℕ) → D.may_leave disk.new file → IsClosed found.records file)) }
-    ensures broken { D.tells disk.new → IfOk result (λ found. found.whole ≡ false → IsBroken (D.reads disk.old) found.records) }
+/// Opens the journal on a disk, whatever a crash left there, and has its records taken one after the other, up to the first bad
+/// one. It syncs first. Where the file has at most one byte, it writes a closed gate at its front and syncs. Beside what the
+/// taker holds it needs memory for one record.
+pub fn open_into<D: Disk, T: TakeRecords>(
+    alloc: Global,
+    disk: D,
+    taker: &mut T,
+) -> Result<Journal<D>, NotOpened<D>>
+    requires { T.took taker.old [] }
+
+    // The records of the file were taken, and the journal holds them.
+    ensures opened { IfOk result (λ journal. IsOpened D.tells D.reads D.may_leave T.took disk taker.new journal) }
+    ensures last { IfOk result (λ journal. journal.last ≡ Stored) }
+
+    // It is refused where a record is bad, after those before it were taken, and else only where the disk failed or memory was
+    // wanting.
+    ensures bad { IfErr result (λ r. (n : ℕ) → r.fault ≡ BadRecord n → StopsAt D.tells D.reads T.took disk taker.new n r.disk) }
+    ensures cause { IfErr result (λ r. r.fault ≡ DiskFault → Rose (D.faults disk) (D.faults r.disk)) }
+
+    // A crash at any moment leaves the same records.
+    ensures any_moment { IfOk result (λ journal. D.tells journal.disk → LeavesOnly D.clock D.left_since disk journal.disk (SameRecords (D.may_leave disk))) }
+    ensures any_moment_err { IfErr result (λ r. D.tells r.disk → LeavesOnly D.clock D.left_since disk r.disk (SameRecords (D.may_leave disk))) }
+
+    ensures told { IfOk result (λ journal. D.tells journal.disk → D.tells disk) }
+    ensures told_err { IfErr result (λ r. D.tells r.disk → D.tells disk) }
+    ensures clock { IfOk result (λ journal. D.clock disk ≤ D.clock journal.disk) }
+    ensures clock_err { IfErr result (λ r. D.clock disk ≤ D.clock r.disk) }
+    ensures faults { IfOk result (λ journal. D.faults disk ≤ D.faults journal.disk) }
+    ensures faults_err { IfErr result (λ r. D.faults disk ≤ D.faults r.disk) }
+{
+    let mut disk = disk;
+    match find(alloc, &mut disk, taker) {
+        Ok(
+            Found {
+                count,
+                place,
+                whole: true,
+            },
+        ) => Ok(Journal {
+            disk,
+            place,
+            count,
+            last: LastAppend::Stored,
+        }),
+        Ok(Found { count, .. }) => Err(NotOpened {
+            fault: OpenFault::BadRecord { n: count },
+            disk,
+        }),
+        Err(fault) => Err(NotOpened { fault, disk }),
+    }
+}
+
+/// Syncs, makes a gate where the file has none, and has the records taken.
+fn find<D: Disk, T: TakeRecords>(
+    alloc: Global,
+    disk: &mut D,
+    taker: &mut T,
+) -> Result<Found, OpenFault>
+    requires { T.took taker.old [] }
+    ensures found { IfOk result (λ found. IsFound T.took taker.new found (D.tells disk.new) (D.reads disk.old) (D.may_leave disk.new)) }
+    ensures few { IfOk result (λ found. 9 * found.count ≤ found.place) }
     ensures any_moment { D.tells disk.new → LeavesOnly D.clock D.left_since disk.old disk.new (SameRecords (D.may_leave disk.old)) }
     ensures told { D.tells disk.new → D.tells disk.old }
     ensures clock { D.clock disk.old ≤ D.clock disk.new }
@@ -106,29 +156,12 @@ fn find<D: Disk>(alloc: Global, disk: &mut D) -> Result<Found, OpenFault>
     if size <= 1 {
         store(disk, 0, &[0])?;
         return Ok(Found {
-            records: Seq::new(alloc),
+            count: 0,
             place: 0,
             whole: true,
         });
     }
-    let bytes = read_file(alloc, disk, size as usize)?;
-    Ok(records_in(alloc, &bytes)?)
-}
-
-/// The bytes of a disk of this length. One that doesn't tell may give fewer or more.
-fn read_file<D: Disk>(alloc: Global, disk: &mut D, size: usize) -> Result<Vec<u8>, OpenFault>
-    ensures bytes { D.tells disk.new → size ≡ length (D.reads disk.old) → IfOk result (λ bytes. bytes.items ≡ D.reads disk.old) }
-    ensures observed { Observed D.tells D.reads D.may_leave D.clock D.left_since disk.old disk.new }
-    ensures cause { Faulted result (D.faults disk.old) (D.faults disk.new) }
-{
-    let mut bytes = Vec::with_capacity(alloc, size)?;
-    let mut buf = [0u8; 65536];
-    'reading: while bytes.len() < size {
-        let count = disk.read_at(bytes.len() as u64, &mut buf)?;
-        if count == 0 {
-            return Ok(bytes);
-        }
-        bytes.extend_from_slice(&buf[..count])?;
-    }
-    Ok(bytes)
+    let found = read_records(alloc, disk, size, taker);
+    disk.end_reading();
+    found
 }

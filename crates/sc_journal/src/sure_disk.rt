@@ -75,6 +75,9 @@ impl Disk for SureDisk {
         Ok(copy_from(self.recorded.bytes(), at, buf))
     }
 
+    #[tactic(auto, using(crate::proofs::Remembered::gains_none))]
+    fn end_reading(&mut self) {}
+
     fn write_at(&mut self, at: u64, bytes: &[u8]) -> Result<(), Failed> {
         if self.has_room(at, bytes.len()) {
             self.recorded.write(at, bytes, bytes.len());

@@ -1,7 +1,7 @@
 -- How a history goes on by the load of a record.
-use Rattle.std.proofs.Common.{◌≡◌, ℕ, ◌+◌, ◌<◌, List, [], ◌∷◌, ◌++◌, length, take, drop, get_or, refl, sym, ap, subst, ◌∙◌, take-append-drop}
+use Rattle.std.proofs.Common.{◌≡◌, ℕ, List, [], ◌∷◌, ◌++◌, length, refl, sym, ap, subst, ◌∙◌, append_assoc}
 use Rattle.std.specs.Prelude.{All}
-use Rattle.std.proofs.lemmas.List.{map-append, take_more, at_drop_more, length-map}
+use Rattle.std.proofs.lemmas.List.{map-append, length-map}
 use Rattle.std.proofs.lemmas.List.Elements.{All-nil, All-push}
 use Rattle.sc_load.specs.declared.load.Load.{Load}
 use Rattle.sc_history.specs.Taken.{Tells}
@@ -29,23 +29,35 @@ follows old bytes new entry is takes whole = record {
 pub records_none : AreRecordsOf [] []
 records_none = record { are = refl; sealable = All-nil IsSealable; past = []; told = told_nothing }
 
-pub records_more : (old new : List Entry) (records : List (List ℕ)) (i : ℕ) (bytes : List ℕ) → i < length records → bytes ≡ get_or records i bytes → AreRecordsOf old (take i records) → Follows old bytes new → AreRecordsOf new (take (i + 1) records)
-records_more old new records i bytes lt is so f = record {
-  are = take_more records i bytes lt ∙ (λ k. so.are k ++ (sym is ∙ f.is.is) k ∷ []) ∙ sym (map-append payload_of old (f.entry ∷ [])) ∙ ap payloads_of (sym f.whole);
+pub records_more : (old new : List Entry) (records : List (List ℕ)) (bytes : List ℕ) → AreRecordsOf old records → Follows old bytes new → AreRecordsOf new (records ++ bytes ∷ [])
+records_more old new records bytes so f = record {
+  are = (λ k. so.are k ++ f.is.is k ∷ []) ∙ sym (map-append payload_of old (f.entry ∷ [])) ∙ ap payloads_of (sym f.whole);
   sealable = subst (All IsSealable) (sym f.whole) (All-push IsSealable old f.entry so.sealable f.is.sealable);
   past = f.past;
   told = f.told;
 }
 
-pub bad_record : (old : List Entry) (records : List (List ℕ)) (i place : ℕ) (bytes : List ℕ) → i < length records → bytes ≡ get_or records i bytes → AreRecordsOf old (take i records) → place ≡ length old → CannotFollow old bytes → IsBadAt records place
-bad_record old records i place bytes lt is so at cannot = record {
-  before = take i records;
+pub bad_record : (old : List Entry) (records : List (List ℕ)) (place : ℕ) (bytes : List ℕ) → AreRecordsOf old records → place ≡ length old → CannotFollow old bytes → IsBadAt (records ++ bytes ∷ []) place
+bad_record old records place bytes so at cannot = record {
+  before = records;
   bad = bytes;
-  after = drop (i + 1) records;
-  split = sym (take-append-drop i records) ∙ ap (λ (l : List (List ℕ)). take i records ++ l) (at_drop_more (λ (l : List (List ℕ)). l) records i bytes lt)
-      ∙ ap (λ (t : List ℕ). take i records ++ t ∷ drop (i + 1) records) (sym is);
+  after = [];
+  split = refl;
   place_is = at ∙ sym (ap length so.are ∙ length-map old payload_of);
   entries = old;
   are = so;
   cannot = cannot;
+}
+
+-- what comes behind a bad record doesn't count
+pub bad_more : (records : List (List ℕ)) (place : ℕ) (bytes : List ℕ) → IsBadAt records place → IsBadAt (records ++ bytes ∷ []) place
+bad_more records place bytes is = record {
+  before = is.before;
+  bad = is.bad;
+  after = is.after ++ bytes ∷ [];
+  split = ap (λ (l : List (List ℕ)). l ++ bytes ∷ []) is.split ∙ append_assoc is.before (is.bad ∷ is.after) (bytes ∷ []);
+  place_is = is.place_is;
+  entries = is.entries;
+  are = is.are;
+  cannot = is.cannot;
 }

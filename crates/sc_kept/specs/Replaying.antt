@@ -1,11 +1,8 @@
 -- What records say of a history, and which they can't.
-use Rattle.std.specs.Prelude.{◌≡◌, ◌≢◌, ◌⊎◌, ℕ, List, [], ◌∷◌, ◌++◌, length, All, Result, Ok, Err}
+use Rattle.std.specs.Prelude.{◌≡◌, ◌≢◌, ◌⊎◌, ℕ, List, [], ◌∷◌, ◌++◌, length, All, Option, None, Some}
 use Rattle.sc_load.specs.declared.fault.LoadFault.{LoadFault}
 use Rattle.sc_load.specs.declared.fault.LoadFault.TheVariants as faults
 use Rattle.sc_journal.specs.Format.{HasRecords, IsBroken}
-use Rattle.sc_journal.specs.declared.fault.OpenFault.{OpenFault}
-use Rattle.sc_journal.specs.declared.fault.OpenFault.TheVariants.{DiskFault, BadRecord, OutOfMemory}
-use Rattle.sc_catalog.specs.Holdings.{Holdings}
 use Rattle.sc_history.specs.Changes.{Change}
 use Rattle.sc_history.specs.Taken.{Refuses}
 use Rattle.sc_catalog.specs.declared.entry.Entry.{Entry}
@@ -50,12 +47,10 @@ pub record Follows (old : List Entry) (bytes : List ℕ) (new : List Entry) : Ty
   pub past : List Change
   pub told : TellsOf new past
 
--- what replaying answers; only a record is bad, and want of memory says nothing
-abbrev pub ReplayAnswers : List (List ℕ) → Result Holdings OpenFault → Type 0
-ReplayAnswers records (Ok catalogue) = AreRecordsOf catalogue.entries records
-ReplayAnswers records (Err DiskFault) = ⊥
-ReplayAnswers records (Err (BadRecord place)) = IsBadAt records place
-ReplayAnswers records (Err OutOfMemory) = Unit {0}
+-- what was taken of the records: all as the history, or, where one doesn't go on from those before it, its number
+abbrev pub IsReplayed : List Entry → Option ℕ → List (List ℕ) → Type 0
+IsReplayed entries None records = AreRecordsOf entries records
+IsReplayed entries (Some place) records = IsBadAt records place
 
 -- A file isn't the journal of a history: the record at the place isn't whole, or it is the first that can't follow those
 -- before it.

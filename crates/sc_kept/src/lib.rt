@@ -11,6 +11,7 @@ mod loads;
 mod opening;
 mod publish;
 mod record;
+mod replay;
 mod sealing;
 mod size;
 

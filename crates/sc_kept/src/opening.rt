@@ -1,52 +1,20 @@
-ghost use Rattle.std.specs.Prelude.{◌≡◌, ◌≤◌, ◌++◌, ◌∷◌, [], List, ℕ, IfOk, IfErr, OnErr, true, false, MatchResult};
+ghost use Rattle.std.specs.Prelude.{◌≡◌, ◌≤◌, [], List, ℕ, IfOk, IfErr, MatchResult};
 ghost use Rattle.sc_outside.specs.Causes.{Rose};
 ghost use Rattle.sc_journal.specs.Disk.{LeavesOnly};
 ghost use Rattle.sc_journal.specs.Format.{HasRecords, SameRecords};
 ghost use Rattle.sc_journal.specs.declared.fault.OpenFault.TheVariants.{DiskFault, BadRecord, OutOfMemory};
 ghost use Rattle.sc_journal.specs.declared.journal.LastAppend.TheVariants.{Stored};
 ghost use Rattle.sc_journal.specs.Journal.{Holds};
-ghost use Rattle.sc_kept.specs.Replaying.{AreRecordsOf, CannotFollow, Follows, IsBadFile, ReplayAnswers};
+ghost use Rattle.sc_kept.specs.Replaying.{AreRecordsOf, IsBadFile};
 
 use crate::fault::ReopenRefused;
 use crate::kept::Kept;
-use crate::record::read_record;
+use crate::replay::Replay;
 use crate::size::TOO_MANY;
-use sc_catalog::{Catalogue, LoadFault};
-use sc_journal::{Disk, Journal, OpenFault, OpenRefused, Opened, Sealed, open};
-use std::alloc::{AllocError, Global};
+use sc_catalog::Catalogue;
+use sc_journal::{Disk, Journal, NotOpened, OpenFault, open_into};
+use std::alloc::Global;
 use std::collections::VecDeque;
-
-/// Publishes the load that a payload tells. False exactly where it tells none, or one that the history refuses, and then the
-/// catalogue stays as it is.
-fn follow(alloc: Global, catalogue: &mut Catalogue, payload: &[u8]) -> Result<bool, AllocError>
-    ensures followed { IfOk result (λ taken. taken ≡ true → Follows catalogue.old.entries payload.now catalogue.new.entries) }
-    ensures same { IfOk result (λ taken. taken ≡ false → catalogue.new ≡ catalogue.old) }
-    ensures refused { IfOk result (λ taken. taken ≡ false → CannotFollow catalogue.old.entries payload.now) }
-{
-    let Some(entry) = read_record(alloc, payload)? else {
-        return Ok(false);
-    };
-    match catalogue.publish(alloc, entry.by, entry.load) {
-        Ok(_) => Ok(true),
-        Err(LoadFault::OutOfMemory) => Err(AllocError),
-        Err(_) => Ok(false),
-    }
-}
-
-/// The catalogue whose history records tell, or the first of them that can't follow those before it.
-fn replay(alloc: Global, records: &[Sealed]) -> Result<Catalogue, OpenFault>
-    ensures { ReplayAnswers records.now result }
-{
-    let mut catalogue = Catalogue::new(alloc)?;
-    for record in records {
-        if !follow(alloc, &mut catalogue, record.payload())? {
-            return Err(OpenFault::BadRecord {
-                n: catalogue.revision(),
-            });
-        }
-    }
-    Ok(catalogue)
-}
 
 /// The kept catalogue of a journal that was just opened. A journal of 2^63 bytes or more wants memory.
 fn keep<D: Disk>(
@@ -73,7 +41,8 @@ fn keep<D: Disk>(
     })
 }
 
-/// Opens the catalogue whose journal is on a disk, whatever a crash left there: an empty file is an empty catalogue's.
+/// Opens the catalogue whose journal is on a disk, whatever a crash left there: an empty file is an empty catalogue's. Beside the
+/// catalogue it needs memory for one record and its load.
 pub fn reopen<D: Disk>(alloc: Global, disk: D) -> Result<Kept<D>, ReopenRefused<D>>
     // Each stored load is in the history once, and in its order, and nothing else is.
     ensures history { IfOk result (λ kept. D.tells kept.journal.disk → (records : List (List ℕ)) × HasRecords (D.reads disk) records × AreRecordsOf kept.catalogue.entries records) }
@@ -94,14 +63,24 @@ pub fn reopen<D: Disk>(alloc: Global, disk: D) -> Result<Kept<D>, ReopenRefused<
     ensures faults { IfOk result (λ kept. D.faults disk ≤ D.faults kept.journal.disk) }
     ensures faults_err { IfErr result (λ r. D.faults disk ≤ D.faults r.disk) }
 {
-    match open(alloc, disk) {
-        Ok(Opened { journal, records }) => match replay(alloc, records.as_slice()) {
-            Ok(catalogue) => keep(alloc, catalogue, journal),
-            Err(fault) => Err(ReopenRefused {
-                fault,
+    let Ok(catalogue) = Catalogue::new(alloc) else {
+        return Err(ReopenRefused {
+            fault: OpenFault::OutOfMemory,
+            disk,
+        });
+    };
+    let mut replay = Replay {
+        catalogue,
+        refused: None,
+    };
+    match open_into(alloc, disk, &mut replay) {
+        Ok(journal) => match replay.refused {
+            None => keep(alloc, replay.catalogue, journal),
+            Some(n) => Err(ReopenRefused {
+                fault: OpenFault::BadRecord { n },
                 disk: journal.into_disk(),
             }),
         },
-        Err(OpenRefused { fault, disk, .. }) => Err(ReopenRefused { fault, disk }),
+        Err(NotOpened { fault, disk }) => Err(ReopenRefused { fault, disk }),
     }
 }

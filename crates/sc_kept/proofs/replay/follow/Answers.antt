@@ -1,5 +1,5 @@
 use Rattle.sc_kept.proofs.Following.{follows}
-use Rattle.sc_kept.proofs.opening.follow.Goals as goal
+use Rattle.sc_kept.proofs.replay.follow.Goals as goal
 
 pub returns-in-Ok-clause-followed : goal.returns-in-Ok-clause-followed
 returns-in-Ok-clause-followed c = λ _.
