@@ -1,16 +1,18 @@
 #!/usr/bin/env python3
 """hostile.py PROGRAM: runs `stacd pipe` and `stacd page` over cut, long, deep and malformed input, and over files that can't be
-read or written, and `stacd serve` over a port that is taken.
+read or written, `stacd serve` over a port that is taken, and `stacd keep` over files that aren't a journal.
 
 What is wanted is stated here by hand, out of the tables of limits and refusals: the status of the program, the line that it
 tells, and the replies' statuses with what they say of a refusal. It prints what differs, and ends with status 0 only where
 nothing does."""
+import fcntl
 import json
 import os
 import re
 import socket
 import subprocess
 import sys
+import tempfile
 import urllib.parse
 
 SECONDS = 60
@@ -153,12 +155,63 @@ def faults():
         wants("a port that is taken", (7, "stacd: listen fault\n"), told(ends([PROGRAM, "serve", port, "1", "1", "1"], subprocess.DEVNULL, subprocess.DEVNULL)))
     wants("a bad line", (3, b"", "stacd: bad line 2\n"), run([PROGRAM, "page", "3"], line + b"{}\n"))
     wants("no lines", 0, run([PROGRAM, "page", "3"], b"")[0])
-    for words in ([], ["page"], ["page", "0"], ["page", "x"], ["pipe"], ["serve", "8080"], ["serve", "0", "1", "1", "1"], ["page", "-1"]):
+    for words in ([], ["page"], ["page", "0"], ["page", "x"], ["pipe"], ["serve", "8080"], ["serve", "0", "1", "1", "1"], ["page", "-1"],
+                  ["keep", "8080", "1", "1"], ["keep", "8080", "9", "1", "f"], ["keep", "8080", "1", "1", "-f"]):
         came = run([PROGRAM, *words], line)
         wants("the words %r" % words, (2, b"", True), (came[0], came[1], came[2].startswith("usage: stacd page LIMIT, ")))
 
 
-for table in (cut_requests, heads, bodies, queries, faults):
+def record(kind, *fields):
+    """A record behind its open gate, by the number 1."""
+    payload = bytes([kind, 0, 0, 0, 1]) + b"".join(len(field).to_bytes(8, "big") + field for field in fields)
+    return b"\1" + len(payload).to_bytes(8, "big") + payload
+
+
+def journals():
+    """Files of `stacd keep`, at a port that is taken: what opens ends with that fault, and what doesn't stays as it is."""
+    opens, fails = (7, "stacd: listen fault\n"), (8, "stacd: disk fault\n")
+    bad = lambda number: (3, "stacd: bad record %d\n" % number)
+    collection = record(1, b'{"id":"s2"}')
+    files = [
+        ("no byte", b"", opens),
+        ("an open gate alone", b"\1", opens),
+        ("a gate that is neither", b"\5\xff\xff", opens),
+        ("an open gate and a byte", b"\1\0", bad(0)),
+        ("a record", collection + b"\0", opens),
+        ("a record, and what is ignored", collection + b"\0" + collection, opens),
+        ("a record without its gate", collection, bad(0)),
+        ("a record that is cut", collection[:-1], bad(0)),
+        ("a length of 2^64 less 1", b"\1" + b"\xff" * 8 + b"\0", bad(0)),
+        ("a kind that there isn't", collection + record(9, b"s2") + b"\0", bad(1)),
+        ("a field too many", collection + record(2, b"s2", b"") + b"\0", bad(1)),
+        ("a collection twice", collection * 2 + b"\0", bad(1)),
+        ("an item that isn't there", collection + record(7, b"s2", b"b") + b"\0", bad(1)),
+    ]
+    with tempfile.TemporaryDirectory() as folder, socket.create_server(("127.0.0.1", 0)) as taken:
+        file = os.path.join(folder, "journal")
+
+        def ends(name):
+            words = [PROGRAM, "keep", str(taken.getsockname()[1]), "1", "1", name]
+            done = subprocess.run(words, stdin=subprocess.DEVNULL, capture_output=True, timeout=SECONDS)
+            return done.returncode, done.stderr.decode()
+
+        for name, content, wanted in files:
+            with open(file, "wb") as out:
+                out.write(content)
+            wants("a journal of %s" % name, wanted, ends(file))
+            with open(file, "rb") as left:
+                wants("%s is left" % name, content if len(content) > 1 else b"\0", left.read())
+        with open(file, "rb") as held:
+            fcntl.flock(held, fcntl.LOCK_EX)
+            wants("a journal that another process has", fails, ends(file))
+        wants("a folder as journal", fails, ends(folder))
+        wants("a journal in no folder", fails, ends(os.path.join(folder, "no", "journal")))
+        wants("a journal without a name", fails, ends(""))
+        if os.path.exists("/dev/full"):
+            wants("a full device as journal", fails, ends("/dev/full"))
+
+
+for table in (cut_requests, heads, bodies, queries, faults, journals):
     table()
 for text in failed[:20]:
     print("tests/hostile.py: " + text, file=sys.stderr)

@@ -126,15 +126,15 @@ module _ {In Out E L J : Type 0} (left : In → Option (List ℕ)) (ended : In �
       later = omega (arith, s.later, o.6);
     }
 
-    pub ends_full : (count : ℕ) (a b : N) (u v : Visitor E) → SoFar count a b u v → Listened count false a b u v
-    ends_full count a b u v s = record {
+    pub ends_full : (count most : ℕ) (a b : N) (u v : Visitor E) → count ≡ most → SoFar count a b u v → Listened most false a b u v
+    ends_full count most a b u v full s = record {
       given = s.given;
       back = s.back;
       served = s.served;
       handed_out = s.handed_out;
       handed_back = s.handed_back;
-      few = omega (arith, s.many);
-      all = inl s.many;
+      few = omega (arith, s.many, full);
+      all = inl (s.many ∙ full);
       later = s.later;
       cause = λ e. let bad : false ≡ true = e in cc;
     }

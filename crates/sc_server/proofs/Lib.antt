@@ -4,3 +4,4 @@ pub mod Seats
 pub mod Sessions
 pub mod Workers
 pub mod Crossing
+pub mod Keepers

@@ -1,3 +1,4 @@
 pub mod Listening
 pub mod Seats
 pub mod Workers
+pub mod Keepers

@@ -12,9 +12,13 @@ use Rattle.sc_tighten.specs.declared.count.WorkDone.{WorkDone}
 use Rattle.sc_tighten.specs.Work.{Works, tightener}
 use Rattle.sc_server.specs.declared.seat.Seat.{Seat}
 
--- a pass of this number at a desk whose history is empty, which has taken no turn
+-- a pass of this number at a desk that was made when this was the history, which has taken no turn
+abbrev pub joiner : TableId → List Entry → ℕ → Visitor Entry
+joiner desk begun number = record { desk = desk; number = number; start = length begun; seen = begun; visits = [] }
+
+-- the same at a desk whose history was empty
 abbrev pub newcomer : TableId → ℕ → Visitor Entry
-newcomer desk number = record { desk = desk; number = number; start = 0; seen = []; visits = [] }
+newcomer desk number = joiner desk [] number
 
 -- one seat for each card of notices, numbered from 1 at the desk; none has done anything
 pub record AreSeated (desk : TableId) (callers : List Caller) (seats : List Seat) : Type 0 where
@@ -45,11 +49,15 @@ pub record IsStopping (turns count : ℕ) (old new : Seat) : Type 0 where
   pub pass_is : new.pass ≡ mid.pass
   pub stops : TellsStop count mid.notices new.notices
 
+-- the card of a pass
+pub record IsCardFor {V : Type 0} {g : Ghosts V Entry} (visitor : Visitor Entry) (card : Card V Entry g) : Type 0 where
+  pub of : card_desk card ≡ visitor.desk
+  pub numbered : card_number card ≡ visitor.number
+  pub saw : card_seen card ≡ visitor.seen
+
 -- the card of a seat's pass
-pub record IsCardOf {V : Type 0} {g : Ghosts V Entry} (seat : Seat) (card : Card V Entry g) : Type 0 where
-  pub of : card_desk card ≡ seat.pass.desk
-  pub numbered : card_number card ≡ seat.pass.number
-  pub saw : card_seen card ≡ seat.pass.seen
+abbrev pub IsCardOf : {V : Type 0} {g : Ghosts V Entry} → Seat → Card V Entry g → Type 0
+IsCardOf seat card = IsCardFor seat.pass card
 
 -- the cards of all seats, in order
 pub record AreCardsOf {V : Type 0} {g : Ghosts V Entry} (seats : List Seat) (cards : List (Card V Entry g)) (callers : List Caller) : Type 0 where

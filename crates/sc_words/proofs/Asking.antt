@@ -1,5 +1,5 @@
 -- What words ask for, and the forms that they have.
-use Rattle.std.proofs.Common.{◌≡◌, ℕ, ◌<◌, ◌≤◌, List, [], ◌∷◌, length, map, codes, Option, Some, None, Bool, true, false, ◌&&◌, refl, sym, ap, subst, ◌∙◌, arith, Bor, All, slice_index_or}
+use Rattle.std.proofs.Common.{◌≡◌, ℕ, ◌<◌, ◌≤◌, List, [], ◌∷◌, length, map, codes, Option, Some, None, Bool, true, false, ◌&&◌, if◌then◌else◌, refl, sym, ap, subst, ◌∙◌, arith, Bor, All, slice_index_or}
 use Rattle.std.specs.Str.{bytes_eq}
 use Rattle.std.proofs.lemmas.Slice.Eq.{bytes_eq-Decides}
 use Rattle.std.proofs.lemmas.List.Elements.{All-nil, All-cons, All-head, All-tail}
@@ -8,7 +8,7 @@ use Rattle.sc_words.specs.Forms.{IsPlainWord, AllPlain, form_of, has_one, has_fo
 use Rattle.sc_words.specs.Asks.{number_behind, IsDigit, AreServeWords, Asks}
 use Rattle.sc_words.specs.declared.command.Command.{Command}
 use Rattle.sc_words.specs.declared.command.Serving.{Serving}
-use Rattle.sc_words.specs.declared.command.Command.TheVariants.{Page, Pipe, Serve}
+use Rattle.sc_words.specs.declared.command.Command.TheVariants.{Page, Pipe, Serve, Keep}
 
 pub plain_words : (ws : List (Bor (List ℕ))) → All (λ s. IsPlainWord s.now) ws → AllPlain (map (λ s. s.now) ws)
 plain_words [] p = tt
@@ -36,6 +36,14 @@ asks_plain ws (Serve serving) s =
         ),
       ),
     )
+asks_plain ws (Keep keeping) k =
+    rw k.are (
+      refl,
+      (
+        digits_plain k.port k.port_is.some k.port_is.digits,
+        (digits_plain k.workers k.workers_are.some k.workers_are.digits, (digits_plain k.connections k.connections_are.some k.connections_are.digits, (k.plain, tt))),
+      ),
+    )
 
 -- words of which not all are plain ask for nothing
 pub none_not_plain : (ws : List (Bor (List ℕ))) (command : Command) → (All (λ s. IsPlainWord s.now) ws → ⊥) → Asks (map (λ s. s.now) ws) command → ⊥
@@ -45,6 +53,7 @@ asks_form : (ws : List (List ℕ)) (command : Command) → Asks ws command → (
 asks_form ws (Page limit) a = rw a.1 (_, refl)
 asks_form ws (Pipe base) a = rw a.0 (_, refl)
 asks_form ws (Serve serving) a = rw a.are (_, refl)
+asks_form ws (Keep keeping) a = rw a.are (_, refl)
 
 -- words without a form ask for nothing
 pub none_asks : (ws : List (List ℕ)) (command : Command) → None ≡ form_of ws → Asks ws command → ⊥
@@ -58,26 +67,25 @@ abbrev given : List ℕ × List (List ℕ) → Option (List ℕ × List (List �
 given d None = d
 given d (Some p) = p
 
+-- The form of words is that of a name, or else one of the others.
+named : (w : List ℕ) (rest : List (List ℕ)) (p : List ℕ × List (List ℕ)) (name : List ℕ) (fits : Bool) (others : Option (List ℕ × List (List ℕ)))
+    → (if bytes_eq w name && fits then Some (name, rest) else others) ≡ Some p → (others ≡ Some p → w ∷ rest ≡ p.0 ∷ p.1) → w ∷ rest ≡ p.0 ∷ p.1
+named w rest p name fits others e other = by (bytes_eq w name && fits) refl
+  where
+    by : (b : Bool) → (bytes_eq w name && fits) ≡ b → w ∷ rest ≡ p.0 ∷ p.1
+    by true q =
+        let same : w ≡ name = (bytes_eq-Decides w name).0 (both_left _ _ q) in
+        subst (λ t. w ∷ rest ≡ t.0 ∷ t.1) (ap (given (name, rest)) (rw q at e)) (ap (λ x. x ∷ rest) same)
+    by false q = other (rw q at e)
+
 -- the words of a form are its name and what stands behind it
 pub form_words : (ws : List (List ℕ)) (p : List ℕ × List (List ℕ)) → form_of ws ≡ Some p → ws ≡ p.0 ∷ p.1
 form_words [] p e = cc
-form_words (w ∷ rest) p e = first (bytes_eq w (codes "page") && has_one rest) refl
-  where
-    named : (name : List ℕ) → bytes_eq w name ≡ true → Some (name, rest) ≡ Some p → w ∷ rest ≡ p.0 ∷ p.1
-    named name q s = let same : w ≡ name = (bytes_eq-Decides w name).0 q in
-        subst (λ t. w ∷ rest ≡ t.0 ∷ t.1) (ap (given (name, rest)) s) (ap (λ x. x ∷ rest) same)
-
-    third : (b : Bool) → (bytes_eq w (codes "serve") && has_four rest) ≡ b → (bytes_eq w (codes "page") && has_one rest) ≡ false → (bytes_eq w (codes "pipe") && has_one rest) ≡ false → w ∷ rest ≡ p.0 ∷ p.1
-    third true q x y = named (codes "serve") (both_left _ _ q) (rw (x, y, q) at e)
-    third false q x y = let bad : None ≡ Some p = rw (x, y, q) at e in cc
-
-    second : (b : Bool) → (bytes_eq w (codes "pipe") && has_one rest) ≡ b → (bytes_eq w (codes "page") && has_one rest) ≡ false → w ∷ rest ≡ p.0 ∷ p.1
-    second true q x = named (codes "pipe") (both_left _ _ q) (rw (x, q) at e)
-    second false q x = third (bytes_eq w (codes "serve") && has_four rest) refl x q
-
-    first : (b : Bool) → (bytes_eq w (codes "page") && has_one rest) ≡ b → w ∷ rest ≡ p.0 ∷ p.1
-    first true q = named (codes "page") (both_left _ _ q) (rw q at e)
-    first false q = second (bytes_eq w (codes "pipe") && has_one rest) refl q
+form_words (w ∷ rest) p e =
+    named w rest p (codes "page") (has_one rest) _ e (λ e.
+    named w rest p (codes "pipe") (has_one rest) _ e (λ e.
+    named w rest p (codes "serve") (has_four rest) _ e (λ e.
+    named w rest p (codes "keep") (has_four rest) _ e (λ e. cc))))
 
 -- words with a form ask for what its words ask for
 pub some_asks : (ws : List (List ℕ)) (p : List ℕ × List (List ℕ)) (command : Command) → Some p ≡ form_of ws → Asks (p.0 ∷ p.1) command → Asks ws command
@@ -86,16 +94,16 @@ some_asks ws p command e a = subst (λ t. Asks t command) (sym (form_words ws p 
 pub some_only : (ws : List (List ℕ)) (p : List ℕ × List (List ℕ)) (command : Command) → Some p ≡ form_of ws → Asks ws command → Asks (p.0 ∷ p.1) command
 some_only ws p command e a = subst (λ t. Asks t command) (form_words ws p (sym e)) a
 
--- five words, the first of which is `serve`
-pub five : (ws : List (Bor (List ℕ))) (d : Bor (List ℕ)) → 5 ≤ length ws → length ws < 6 → (slice_index_or ws 0 d).now ≡ codes "serve"
-    → codes "serve" ∷ (slice_index_or ws 1 d).now ∷ (slice_index_or ws 2 d).now ∷ (slice_index_or ws 3 d).now ∷ (slice_index_or ws 4 d).now ∷ [] ≡ map (λ s. s.now) ws
-five [] d l u s = absurd (omega (arith, l))
-five (a ∷ []) d l u s = absurd (omega (arith, l))
-five (a ∷ (b ∷ [])) d l u s = absurd (omega (arith, l))
-five (a ∷ (b ∷ (c ∷ []))) d l u s = absurd (omega (arith, l))
-five (a ∷ (b ∷ (c ∷ (e ∷ [])))) d l u s = absurd (omega (arith, l))
-five (a ∷ (b ∷ (c ∷ (e ∷ (f ∷ []))))) d l u s = ap (λ t. t ∷ b.now ∷ c.now ∷ e.now ∷ f.now ∷ []) (sym s)
-five (a ∷ (b ∷ (c ∷ (e ∷ (f ∷ (g ∷ rest)))))) d l u s = absurd (omega (arith, u))
+-- five words, the first of which is a name
+pub five : (ws : List (Bor (List ℕ))) (d : Bor (List ℕ)) (name : List ℕ) → 5 ≤ length ws → length ws < 6 → (slice_index_or ws 0 d).now ≡ name
+    → name ∷ (slice_index_or ws 1 d).now ∷ (slice_index_or ws 2 d).now ∷ (slice_index_or ws 3 d).now ∷ (slice_index_or ws 4 d).now ∷ [] ≡ map (λ s. s.now) ws
+five [] d name l u s = absurd (omega (arith, l))
+five (a ∷ []) d name l u s = absurd (omega (arith, l))
+five (a ∷ (b ∷ [])) d name l u s = absurd (omega (arith, l))
+five (a ∷ (b ∷ (c ∷ []))) d name l u s = absurd (omega (arith, l))
+five (a ∷ (b ∷ (c ∷ (e ∷ [])))) d name l u s = absurd (omega (arith, l))
+five (a ∷ (b ∷ (c ∷ (e ∷ (f ∷ []))))) d name l u s = ap (λ t. t ∷ b.now ∷ c.now ∷ e.now ∷ f.now ∷ []) (sym s)
+five (a ∷ (b ∷ (c ∷ (e ∷ (f ∷ (g ∷ rest)))))) d name l u s = absurd (omega (arith, u))
 
 third : List (List ℕ) → List ℕ
 third (a ∷ (b ∷ (c ∷ rest))) = c

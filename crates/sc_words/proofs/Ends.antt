@@ -1,10 +1,10 @@
 -- What a parse's end says of the words.
-use Rattle.std.proofs.Common.{◌≡◌, inl, inr, ◌∙◌, ap, subst, sym, refl, true, List, [], ◌∷◌, None}
-use Rattle.clap.specs.Words.{App, Text, HasMatchesOf, subcommand_rows_of, subcommand_of, is_simple, fault_of, is_simple_and_free, kind_of, HasKind}
+use Rattle.std.proofs.Common.{◌≡◌, inl, inr, ◌∙◌, ap, ap₂, subst, sym, refl, true, List, [], ◌∷◌, Option, Some, None, option_map}
+use Rattle.clap.specs.Words.{App, Text, Row, HasMatchesOf, subcommand_name_of, subcommand_rows_of, subcommand_of, is_simple, fault_of, is_simple_and_free, kind_of, HasKind}
 use Rattle.clap.specs.declared.ArgMatches.{ArgMatches}
 use Rattle.clap.specs.declared.Error.{Error}
 use Rattle.clap.specs.declared.error.kind.ErrorKind.TheVariants as kind
-use Rattle.sc_words.specs.Forms.{AllPlain, stacd, form_of, form_met}
+use Rattle.sc_words.specs.Forms.{AllPlain, stacd, form_of, form_in, form_met}
 use Rattle.sc_words.proofs.Leaves.{simple}
 use Rattle.sc_words.proofs.Top.{judged}
 
@@ -33,3 +33,21 @@ final_err x ws e q p f n = elim (judged ws p) [
     none : HasKind [] e → ⊥
     none (inl m) = n m
     none (inr m) = m
+
+abbrev given : {T : Type 0} → T → Option T → T
+given d None = d
+given d (Some x) = x
+
+firsts : {B : Type 0} (f : B → Text) (g : B → List Row) (found : Option B) → option_map f found ≡ option_map (λ (p : Text × List Row). p.0) (option_map (λ b. (f b, g b)) found)
+firsts f g None = refl
+firsts f g (Some b) = refl
+
+in_found : (found : Option (Text × List Row)) (name : Text) (rows : List Row) → Some name ≡ option_map (λ p. p.0) found → Some rows ≡ option_map (λ p. p.1) found
+    → form_in name rows ≡ form_met found
+in_found None name rows e f = cc
+in_found (Some p) name rows e f = ap₂ form_in (ap (given name) e) (ap (given rows) f)
+
+-- the form of a name and the rows that were met
+pub met : (m : ArgMatches) (name : Text) (rows : List Row) → Some name ≡ subcommand_name_of m → Some rows ≡ option_map (λ p. p.1) (subcommand_rows_of m)
+    → form_in name rows ≡ form_met (subcommand_rows_of m)
+met m name rows e f = in_found (subcommand_rows_of m) name rows (e ∙ firsts _ _ _) f

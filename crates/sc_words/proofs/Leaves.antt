@@ -50,6 +50,9 @@ built_pipe = at (built stacd).subs 1
 abbrev pub built_serve : Shape
 built_serve = at (built stacd).subs 2
 
+abbrev pub built_keep : Shape
+built_keep = at (built stacd).subs 3
+
 abbrev pub by_arg : List Rule → Option Rule → Text → Held → Held
 by_arg c None word h = h
 by_arg c (Some a) word h = positional_held c a word h
@@ -128,3 +131,92 @@ RowsOfServe r a b c d = (first_of (codes "a") r ≡ Some a) × (first_of (codes 
 
 pub rows_serve : (a b c d : Text) → IsPlainWord a → IsPlainWord b → IsPlainWord c → IsPlainWord d → RowsOfServe (rows built_serve (a ∷ (b ∷ (c ∷ (d ∷ []))))) a b c d
 rows_serve a b c d p1 p2 p3 p4 = rw (walked_plain built_serve.rules nothing_held 1 a p1, walked_plain built_serve.rules (held_at built_serve 1 a nothing_held) 2 b p2, walked_plain built_serve.rules (held_at built_serve 2 b (held_at built_serve 1 a nothing_held)) 3 c p3, walked_plain built_serve.rules (held_at built_serve 3 c (held_at built_serve 2 b (held_at built_serve 1 a nothing_held))) 4 d p4) (refl, refl, refl, refl)
+
+-- keep
+
+abbrev keep_1 : Text → Held
+keep_1 a = held_at built_keep 1 a nothing_held
+
+abbrev keep_2 : Text → Text → Held
+keep_2 a b = held_at built_keep 2 b (keep_1 a)
+
+abbrev keep_3 : Text → Text → Text → Held
+keep_3 a b c = held_at built_keep 3 c (keep_2 a b)
+
+abbrev keep_4 : Text → Text → Text → Text → Held
+keep_4 a b c d = held_at built_keep 4 d (keep_3 a b c)
+
+pub few_keep_0 : faults built_keep [] ≡ kind.MissingRequiredArgument ∷ []
+unfolding walk_fault defaults_fault
+few_keep_0 = refl
+
+pub few_keep_1 : (a : Text) → IsPlainWord a → faults built_keep (a ∷ []) ≡ kind.MissingRequiredArgument ∷ []
+unfolding walk_fault defaults_fault
+few_keep_1 a p1 =
+    rw (
+      turn_plain built_keep nothing_held 1 a p1,
+      walked_plain built_keep.rules nothing_held 1 a p1,
+    ) refl
+
+pub few_keep_2 : (a b : Text) → IsPlainWord a → IsPlainWord b → faults built_keep (a ∷ (b ∷ [])) ≡ kind.MissingRequiredArgument ∷ []
+unfolding walk_fault defaults_fault
+few_keep_2 a b p1 p2 =
+    rw (
+      turn_plain built_keep nothing_held 1 a p1,
+      walked_plain built_keep.rules nothing_held 1 a p1,
+      turn_plain built_keep (keep_1 a) 2 b p2,
+      walked_plain built_keep.rules (keep_1 a) 2 b p2,
+    ) refl
+
+pub few_keep_3 : (a b c : Text) → IsPlainWord a → IsPlainWord b → IsPlainWord c → faults built_keep (a ∷ (b ∷ (c ∷ []))) ≡ kind.MissingRequiredArgument ∷ []
+unfolding walk_fault defaults_fault
+few_keep_3 a b c p1 p2 p3 =
+    rw (
+      turn_plain built_keep nothing_held 1 a p1,
+      walked_plain built_keep.rules nothing_held 1 a p1,
+      turn_plain built_keep (keep_1 a) 2 b p2,
+      walked_plain built_keep.rules (keep_1 a) 2 b p2,
+      turn_plain built_keep (keep_2 a b) 3 c p3,
+      walked_plain built_keep.rules (keep_2 a b) 3 c p3,
+    ) refl
+
+pub all_keep : (a b c d : Text) → IsPlainWord a → IsPlainWord b → IsPlainWord c → IsPlainWord d → faults built_keep (a ∷ (b ∷ (c ∷ (d ∷ [])))) ≡ []
+unfolding walk_fault defaults_fault
+all_keep a b c d p1 p2 p3 p4 =
+    rw (
+      turn_plain built_keep nothing_held 1 a p1,
+      walked_plain built_keep.rules nothing_held 1 a p1,
+      turn_plain built_keep (keep_1 a) 2 b p2,
+      walked_plain built_keep.rules (keep_1 a) 2 b p2,
+      turn_plain built_keep (keep_2 a b) 3 c p3,
+      walked_plain built_keep.rules (keep_2 a b) 3 c p3,
+      turn_plain built_keep (keep_3 a b c) 4 d p4,
+      walked_plain built_keep.rules (keep_3 a b c) 4 d p4,
+    ) refl
+
+pub more_keep : (a b c d e : Text) (rest : List Text) → IsPlainWord a → IsPlainWord b → IsPlainWord c → IsPlainWord d → IsPlainWord e → faults built_keep (a ∷ (b ∷ (c ∷ (d ∷ (e ∷ rest))))) ≡ kind.UnknownArgument ∷ []
+unfolding walk_fault defaults_fault
+more_keep a b c d e rest p1 p2 p3 p4 p5 =
+    rw (
+      turn_plain built_keep nothing_held 1 a p1,
+      walked_plain built_keep.rules nothing_held 1 a p1,
+      turn_plain built_keep (keep_1 a) 2 b p2,
+      walked_plain built_keep.rules (keep_1 a) 2 b p2,
+      turn_plain built_keep (keep_2 a b) 3 c p3,
+      walked_plain built_keep.rules (keep_2 a b) 3 c p3,
+      turn_plain built_keep (keep_3 a b c) 4 d p4,
+      walked_plain built_keep.rules (keep_3 a b c) 4 d p4,
+      turn_plain built_keep (keep_4 a b c d) 5 e p5,
+    ) refl
+
+abbrev pub RowsOfKeep : List Row → Text → Text → Text → Text → Type 0
+RowsOfKeep r a b c d = (first_of (codes "a") r ≡ Some a) × (first_of (codes "b") r ≡ Some b) × (first_of (codes "c") r ≡ Some c) × (first_of (codes "d") r ≡ Some d)
+
+pub rows_keep : (a b c d : Text) → IsPlainWord a → IsPlainWord b → IsPlainWord c → IsPlainWord d → RowsOfKeep (rows built_keep (a ∷ (b ∷ (c ∷ (d ∷ []))))) a b c d
+rows_keep a b c d p1 p2 p3 p4 =
+    rw (
+      walked_plain built_keep.rules nothing_held 1 a p1,
+      walked_plain built_keep.rules (keep_1 a) 2 b p2,
+      walked_plain built_keep.rules (keep_2 a b) 3 c p3,
+      walked_plain built_keep.rules (keep_3 a b c) 4 d p4,
+    ) (refl, refl, refl, refl)

@@ -11,7 +11,7 @@ use Rattle.clap.specs.Simple.{names_of}
 use Rattle.clap.specs.declared.error.kind.ErrorKind.TheVariants as kind
 use Rattle.clap.specs.declared.error.kind.ErrorKind.{ErrorKind}
 use Rattle.sc_words.specs.Forms.{IsPlainWord, AllPlain, stacd, form_of, form_in, form_met}
-use Rattle.sc_words.proofs.Leaves.{built_page, built_pipe, built_serve, faults, rows, RowsOfServe, none_page, one_page, more_page, row_page, none_pipe, one_pipe, more_pipe, row_pipe, few_serve_0, few_serve_1, few_serve_2, few_serve_3, all_serve, more_serve, rows_serve}
+use Rattle.sc_words.proofs.Leaves.{built_page, built_pipe, built_serve, built_keep, faults, rows, RowsOfServe, RowsOfKeep, none_page, one_page, more_page, row_page, none_pipe, one_pipe, more_pipe, row_pipe, few_serve_0, few_serve_1, few_serve_2, few_serve_3, all_serve, more_serve, rows_serve, few_keep_0, few_keep_1, few_keep_2, few_keep_3, all_keep, more_keep, rows_keep}
 
 or_else_nil : (k : Kinds) → or_else k [] ≡ k
 or_else_nil [] = refl
@@ -70,12 +70,23 @@ faults_serve rest = rw (fault_on top names (codes "serve") [] rest, walk_serve r
 sub_serve : (rest : List Text) → subcommand_of stacd (codes "serve" ∷ rest) ≡ Some (codes "serve", rows built_serve rest)
 sub_serve rest = rw (walk_serve rest) refl
 
+walk_keep : (rest : List Text) → walk top.rules names nothing_held (codes "keep" ∷ rest) ≡ stopped_at (codes "keep") rest
+unfolding walked
+walk_keep rest = walk_on top.rules names (codes "keep") [] rest
+
+faults_keep : (rest : List Text) → fault_of stacd (codes "keep" ∷ rest) ≡ faults built_keep rest
+unfolding walked walk_fault defaults_fault
+faults_keep rest = rw (fault_on top names (codes "keep") [] rest, walk_keep rest) (or_else_nil (faults built_keep rest))
+
+sub_keep : (rest : List Text) → subcommand_of stacd (codes "keep" ∷ rest) ≡ Some (codes "keep", rows built_keep rest)
+sub_keep rest = rw (walk_keep rest) refl
+
 -- a first word that is no name is refused
 abbrev pub Other : Text → Type 0
-Other w = (bytes_eq (codes "page") w ≡ false) × (bytes_eq (codes "pipe") w ≡ false) × (bytes_eq (codes "serve") w ≡ false)
+Other w = (bytes_eq (codes "page") w ≡ false) × (bytes_eq (codes "pipe") w ≡ false) × (bytes_eq (codes "serve") w ≡ false) × (bytes_eq (codes "keep") w ≡ false)
 
 met_other : (w : Text) → Other w → subcommand_met names idle w ≡ None
-met_other w o = rw (o.0, o.1, o.2) refl
+met_other w o = rw (o.0, o.1, o.2, o.3) refl
 
 faults_other : (w : Text) (rest : List Text) → IsPlainWord w → Other w → fault_of stacd (w ∷ rest) ≡ kind.UnknownArgument ∷ (kind.InvalidSubcommand ∷ [])
 unfolding walk_fault defaults_fault
@@ -114,22 +125,38 @@ judged_serve (a ∷ (b ∷ (c ∷ (d ∷ [])))) p =
 judged_serve (a ∷ (b ∷ (c ∷ (d ∷ (e ∷ rest))))) p =
     inr (_, _, faults_serve (a ∷ (b ∷ (c ∷ (d ∷ (e ∷ rest))))) ∙ more_serve a b c d e rest p.0 p.1.0 p.1.1.0 p.1.1.1.0 p.1.1.1.1.0, refl)
 
-same_or : (n w : Text) → (w ≡ n) ⊎ ((bytes_eq n w ≡ false) × (bytes_eq w n ≡ false))
-same_or n w = by (bytes_eq n w) refl (bytes_eq w n) refl
+judged_keep : (rest : List Text) → AllPlain rest → Judged (codes "keep" ∷ rest)
+judged_keep [] p = inr (_, _, faults_keep [] ∙ few_keep_0, refl)
+judged_keep (a ∷ []) p = inr (_, _, faults_keep (a ∷ []) ∙ few_keep_1 a p.0, refl)
+judged_keep (a ∷ (b ∷ [])) p = inr (_, _, faults_keep (a ∷ (b ∷ [])) ∙ few_keep_2 a b p.0 p.1.0, refl)
+judged_keep (a ∷ (b ∷ (c ∷ []))) p = inr (_, _, faults_keep (a ∷ (b ∷ (c ∷ []))) ∙ few_keep_3 a b c p.0 p.1.0 p.1.1.0, refl)
+judged_keep (a ∷ (b ∷ (c ∷ (d ∷ [])))) p =
+    let r = rows_keep a b c d p.0 p.1.0 p.1.1.0 p.1.1.1.0 in
+    inl (faults_keep (a ∷ (b ∷ (c ∷ (d ∷ [])))) ∙ all_keep a b c d p.0 p.1.0 p.1.1.0 p.1.1.1.0, ap form_met (sub_keep (a ∷ (b ∷ (c ∷ (d ∷ []))))) ∙ in_keep (rows built_keep (a ∷ (b ∷ (c ∷ (d ∷ []))))) a b c d r)
   where
-    by : (u : Bool) → bytes_eq n w ≡ u → (v : Bool) → bytes_eq w n ≡ v → (w ≡ n) ⊎ ((bytes_eq n w ≡ false) × (bytes_eq w n ≡ false))
-    by true e v f = inl (sym ((bytes_eq-Decides n w).0 e))
-    by false e true f = inl ((bytes_eq-Decides w n).0 f)
-    by false e false f = inr (e, f)
+    in_keep : (rs : List Row) (a b c d : Text) → RowsOfKeep rs a b c d → form_in (codes "keep") rs ≡ Some (codes "keep", (a ∷ (b ∷ (c ∷ (d ∷ [])))))
+    in_keep rs a b c d r = rw (r.0, r.1, r.2, r.3) refl
+judged_keep (a ∷ (b ∷ (c ∷ (d ∷ (e ∷ rest))))) p =
+    inr (_, _, faults_keep (a ∷ (b ∷ (c ∷ (d ∷ (e ∷ rest))))) ∙ more_keep a b c d e rest p.0 p.1.0 p.1.1.0 p.1.1.1.0 p.1.1.1.1.0, refl)
+
+-- A first word is a name, or is judged as another word.
+named : (w : Text) (rest : List Text) (name : Text) → Judged (name ∷ rest) → ((bytes_eq name w ≡ false) × (bytes_eq w name ≡ false) → Judged (w ∷ rest)) → Judged (w ∷ rest)
+named w rest name judged other = by (bytes_eq name w) refl (bytes_eq w name) refl
+  where
+    same : w ≡ name → Judged (w ∷ rest)
+    same e = subst (λ z. Judged (z ∷ rest)) (sym e) judged
+
+    by : (u : Bool) → bytes_eq name w ≡ u → (v : Bool) → bytes_eq w name ≡ v → Judged (w ∷ rest)
+    by true e v f = same (sym ((bytes_eq-Decides name w).0 e))
+    by false e true f = same ((bytes_eq-Decides w name).0 f)
+    by false e false f = other (e, f)
 
 -- what clap makes of plain words is their form
 pub judged : (ws : List Text) → AllPlain ws → Judged ws
 judged [] p = inl (faults_nil, refl)
-judged (w ∷ rest) p = by (same_or (codes "page") w) (same_or (codes "pipe") w) (same_or (codes "serve") w)
-  where
-    by : (w ≡ codes "page") ⊎ ((bytes_eq (codes "page") w ≡ false) × (bytes_eq w (codes "page") ≡ false)) → (w ≡ codes "pipe") ⊎ ((bytes_eq (codes "pipe") w ≡ false) × (bytes_eq w (codes "pipe") ≡ false)) → (w ≡ codes "serve") ⊎ ((bytes_eq (codes "serve") w ≡ false) × (bytes_eq w (codes "serve") ≡ false)) → Judged (w ∷ rest)
-    by (inl e) b c = subst (λ z. Judged (z ∷ rest)) (sym e) (judged_page rest p.1)
-    by (inr a) (inl e) c = subst (λ z. Judged (z ∷ rest)) (sym e) (judged_pipe rest p.1)
-    by (inr a) (inr b) (inl e) = subst (λ z. Judged (z ∷ rest)) (sym e) (judged_serve rest p.1)
-    by (inr a) (inr b) (inr c) =
-        inr (_, _, faults_other w rest p.0 (a.0, b.0, c.0), rw (a.1, b.1, c.1) refl)
+judged (w ∷ rest) p =
+    named w rest (codes "page") (judged_page rest p.1) (λ a.
+    named w rest (codes "pipe") (judged_pipe rest p.1) (λ b.
+    named w rest (codes "serve") (judged_serve rest p.1) (λ c.
+    named w rest (codes "keep") (judged_keep rest p.1) (λ d.
+    inr (_, _, faults_other w rest p.0 (a.0, b.0, c.0, d.0), rw (a.1, b.1, c.1, d.1) refl)))))

@@ -2,8 +2,9 @@
 use Rattle.std.specs.Prelude.{◌≡◌, ℕ, ◌+◌, ◌*◌, ◌-◌, ◌<◌, ◌≤◌, min, List, [], ◌∷◌, length, codes, All}
 use Rattle.sc_words.specs.Forms.{IsPlainWord}
 use Rattle.sc_words.specs.declared.command.Command.{Command}
-use Rattle.sc_words.specs.declared.command.Command.TheVariants.{Page, Pipe, Serve}
+use Rattle.sc_words.specs.declared.command.Command.TheVariants.{Page, Pipe, Serve, Keep}
 use Rattle.sc_words.specs.declared.command.Serving.{Serving}
+use Rattle.sc_words.specs.declared.command.Keeping.{Keeping}
 
 -- the number that digits stand for, behind the number n
 abbrev pub number_behind : ℕ → List ℕ → ℕ
@@ -41,11 +42,23 @@ pub record AreServeWords (words : List (List ℕ)) (serving : Serving) : Type 0 
   pub tighteners_are : IsNumber 1 8 tighteners serving.tighteners
   pub connections_are : IsNumber 1 1000000 connections serving.connections
 
+-- `keep`, a port, workers and connections, each within its range, and a file, which doesn't begin with `-`
+pub record AreKeepWords (words : List (List ℕ)) (keeping : Keeping) : Type 0 where
+  pub port : List ℕ
+  pub workers : List ℕ
+  pub connections : List ℕ
+  pub are : words ≡ codes "keep" ∷ port ∷ workers ∷ connections ∷ keeping.file.now ∷ []
+  pub port_is : IsNumber 1 65535 port keeping.port
+  pub workers_are : IsNumber 1 8 workers keeping.workers
+  pub connections_are : IsNumber 1 1000000 connections keeping.connections
+  pub plain : IsPlainWord keeping.file.now
+
 -- the words ask for the command; a base doesn't begin with `-`
 abbrev pub Asks : List (List ℕ) → Command → Type 0
 Asks words (Page limit) = (word : List ℕ) × (words ≡ codes "page" ∷ word ∷ []) × IsLimit word limit
 Asks words (Pipe base) = (words ≡ codes "pipe" ∷ base.now ∷ []) × IsPlainWord base.now
 Asks words (Serve serving) = AreServeWords words serving
+Asks words (Keep keeping) = AreKeepWords words keeping
 
 -- the words are no command
 abbrev pub AsksNothing : List (List ℕ) → Type 0

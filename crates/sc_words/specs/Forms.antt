@@ -28,6 +28,9 @@ pipe = leaf (codes "pipe") (codes "a" ∷ [])
 abbrev pub serve : Shape
 serve = leaf (codes "serve") (codes "a" ∷ (codes "b" ∷ (codes "c" ∷ (codes "d" ∷ []))))
 
+abbrev pub keep : Shape
+keep = leaf (codes "keep") (codes "a" ∷ (codes "b" ∷ (codes "c" ∷ (codes "d" ∷ []))))
+
 abbrev pub bare : App
 bare = record {
   top = record (new_shape (codes "stacd")) {
@@ -46,7 +49,7 @@ stacd = record {
     disable_help_subcommand = true;
     is_leaf = false;
   };
-  subs = page ∷ (pipe ∷ (serve ∷ []));
+  subs = page ∷ (pipe ∷ (serve ∷ (keep ∷ [])));
 }
 
 abbrev pub AllPlain : List Text → Type 0
@@ -69,7 +72,8 @@ form_of (w ∷ rest) =
     if bytes_eq w (codes "page") && has_one rest then Some (codes "page", rest)
     else (if bytes_eq w (codes "pipe") && has_one rest then Some (codes "pipe", rest)
     else (if bytes_eq w (codes "serve") && has_four rest then Some (codes "serve", rest)
-    else None))
+    else (if bytes_eq w (codes "keep") && has_four rest then Some (codes "keep", rest)
+    else None)))
 
 abbrev pub texts_in : List Row → List Text → Option (List Text)
 texts_in rows [] = Some []
@@ -84,7 +88,8 @@ form_in name rows =
     if bytes_eq name (codes "page") then with_name (codes "page") (texts_in rows (codes "a" ∷ []))
     else (if bytes_eq name (codes "pipe") then with_name (codes "pipe") (texts_in rows (codes "a" ∷ []))
     else (if bytes_eq name (codes "serve") then with_name (codes "serve") (texts_in rows (codes "a" ∷ (codes "b" ∷ (codes "c" ∷ (codes "d" ∷ [])))))
-    else None))
+    else (if bytes_eq name (codes "keep") then with_name (codes "keep") (texts_in rows (codes "a" ∷ (codes "b" ∷ (codes "c" ∷ (codes "d" ∷ [])))))
+    else None)))
 
 abbrev pub form_met : Option (Text × List Row) → Option (Text × List Text)
 form_met None = None

@@ -1,8 +1,9 @@
 ghost use Rattle.std.specs.Prelude.{◌≡◌, ◌≤◌, ◌∷◌, [], ◌↔◌, IsTrue, IfOk, All, List, ℕ, codes, map, MatchOption};
-ghost use Rattle.sc_words.specs.Asks.{Asks, AsksNothing, AreServeWords, IsLimit};
+ghost use Rattle.sc_words.specs.Asks.{Asks, AsksNothing, AreServeWords, AreKeepWords, IsLimit};
 ghost use Rattle.sc_words.specs.Forms.{IsPlainWord};
 ghost use Rattle.sc_words.specs.declared.command.Command.{Command as CommandRecord};
 ghost use Rattle.sc_words.specs.declared.command.Serving.{Serving as ServingRecord};
+ghost use Rattle.sc_words.specs.declared.command.Keeping.{Keeping as KeepingRecord};
 ghost use Rattle.sc_words.specs.View.{view_of};
 
 use crate::number::{are_digits, capped, number_of};
@@ -25,6 +26,19 @@ pub struct Serving {
     pub connections: u64,
 }
 
+/// The numbers and the file of the command `keep`.
+#[derive(Clone, Copy, Debug, PartialEq, Eq)]
+pub struct Keeping<'a> {
+    /// The port, from 1 to 65,535.
+    pub port: u16,
+    /// How many workers serve connections at the same time, from 1 to 8.
+    pub workers: u32,
+    /// How many connections each worker serves before it stops, from 1 to 1,000,000.
+    pub connections: u64,
+    /// The file of the journal.
+    pub file: &'a str,
+}
+
 /// What the words behind the program's name ask for.
 #[derive(Clone, Copy, Debug, PartialEq, Eq)]
 pub enum Command<'a> {
@@ -34,6 +48,8 @@ pub enum Command<'a> {
     Pipe { base: &'a str },
     /// `serve PORT WORKERS TIGHTENERS CONNS`: a server at the port of 127.0.0.1.
     Serve(Serving),
+    /// `keep PORT WORKERS CONNS FILE`: a server whose loads are stored in a file.
+    Keep(Keeping<'a>),
 }
 
 /// The limit that a word gives.
@@ -91,6 +107,43 @@ fn is_plain(word: &str) -> bool
     }
 }
 
+/// The numbers and the file of `keep` that four words give, each within its range.
+fn keeping_in<'a>(
+    port: &str,
+    workers: &str,
+    connections: &str,
+    file: &'a str,
+) -> Option<Keeping<'a>>
+    ensures { MatchOption result ((keeping : KeepingRecord) → AreKeepWords (codes "keep" ∷ port.now ∷ workers.now ∷ connections.now ∷ file.entry.now ∷ []) keeping → ⊥) (AreKeepWords (codes "keep" ∷ port.now ∷ workers.now ∷ connections.now ∷ file.entry.now ∷ [])) }
+{
+    let port = number_of(port, 1, 65_535)?;
+    let workers = number_of(workers, 1, 8)?;
+    let connections = number_of(connections, 1, 1_000_000)?;
+    if !is_plain(file) {
+        return None;
+    }
+    Some(Keeping {
+        port: port as u16,
+        workers: workers as u32,
+        connections,
+        file,
+    })
+}
+
+/// The numbers and the file of `keep`, where the words ask for it. Takes no memory.
+pub fn keeping_of<'a>(words: &[&'a str]) -> Option<Keeping<'a>>
+    ensures { MatchOption result ((keeping : KeepingRecord) → AreKeepWords (map (λ s. s.now) words.now) keeping → ⊥) (AreKeepWords (map (λ s. s.now) words.now)) }
+{
+    let [name, port, workers, connections, file] = words else {
+        return None;
+    };
+    if *name == "keep" {
+        keeping_in(port, workers, connections, file)
+    } else {
+        None
+    }
+}
+
 /// Whether no word begins with `-`.
 fn are_plain(words: &[&str]) -> bool
     ensures { IsTrue result ↔ All (λ s. IsPlainWord s.now) words.now }
@@ -111,6 +164,12 @@ fn command_in<'a>(form: Form<'a>) -> Option<Command<'a>>
         Form::Serve(port, workers, tighteners, connections) => {
             match serving_in(port, workers, tighteners, connections) {
                 Some(serving) => Some(Command::Serve(serving)),
+                None => None,
+            }
+        }
+        Form::Keep(port, workers, connections, file) => {
+            match keeping_in(port, workers, connections, file) {
+                Some(keeping) => Some(Command::Keep(keeping)),
                 None => None,
             }
         }

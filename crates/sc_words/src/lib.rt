@@ -6,4 +6,4 @@ pub mod laws;
 mod number;
 mod words;
 
-pub use command::{Command, Serving, command_of, serving_of};
+pub use command::{Command, Keeping, Serving, command_of, keeping_of, serving_of};

@@ -14,6 +14,7 @@ pub(crate) enum Form<'a> {
     Page(&'a str),
     Pipe(&'a str),
     Serve(&'a str, &'a str, &'a str, &'a str),
+    Keep(&'a str, &'a str, &'a str, &'a str),
 }
 
 /// A word that must be there.
@@ -63,6 +64,18 @@ fn serve<'a>(alloc: Global) -> Result<Command<'a>, AllocError>
     more(alloc, serve, "d")
 }
 
+/// The command `keep`.
+fn keep<'a>(alloc: Global) -> Result<Command<'a>, AllocError>
+    ensures shape { IfOk result (λ c. shape_of c ≡ shapes.keep) }
+    ensures local { IfOk result (λ c. (fields_of c).has_globals ≡ false) }
+{
+    let keep = Command::new(alloc, "keep");
+    let keep = more(alloc, keep, "a")?;
+    let keep = more(alloc, keep, "b")?;
+    let keep = more(alloc, keep, "c")?;
+    more(alloc, keep, "d")
+}
+
 /// The command, as `clap` reads it.
 fn command<'a>(alloc: Global) -> Result<Command<'a>, AllocError>
     ensures { IfOk result (λ c. app_of c ≡ shapes.stacd) }
@@ -70,7 +83,8 @@ fn command<'a>(alloc: Global) -> Result<Command<'a>, AllocError>
     let top = bare(alloc);
     let top = top.subcommand(one(alloc, "page")?)?;
     let top = top.subcommand(one(alloc, "pipe")?)?;
-    top.subcommand(serve(alloc)?)
+    let top = top.subcommand(serve(alloc)?)?;
+    top.subcommand(keep(alloc)?)
 }
 
 /// The text of an argument.
@@ -95,6 +109,13 @@ fn form_in<'a>(name: &str, matches: &ArgMatches<'a>) -> Option<Form<'a>>
         let c = text_in(matches, "c")?;
         let d = text_in(matches, "d")?;
         return Some(Form::Serve(a, b, c, d));
+    }
+    if name == "keep" {
+        let a = text_in(matches, "a")?;
+        let b = text_in(matches, "b")?;
+        let c = text_in(matches, "c")?;
+        let d = text_in(matches, "d")?;
+        return Some(Form::Keep(a, b, c, d));
     }
     None
 }

@@ -1,6 +1,7 @@
-pub mod Judging
-pub mod Naming
 pub mod Ends
+pub mod Judging
+pub mod Kept
+pub mod Naming
 pub mod Piped
-pub mod Served
 pub mod Running
+pub mod Served

@@ -1,8 +1,9 @@
-//! The catalogue server: `stacd serve` answers the STAC API over HTTP, `stacd pipe` on one connection, and `stacd page` prints
-//! the page of the items of its input.
+//! The catalogue server: `stacd serve` answers the STAC API over HTTP, `stacd keep` too, with each load stored in a file,
+//! `stacd pipe` answers it on one connection, and `stacd page` prints the page of the items of its input.
 #![tactic(auto)]
 
 mod fault;
+mod keeping;
 mod laws;
 mod lines;
 mod names;
@@ -11,15 +12,18 @@ mod program;
 mod serving;
 mod tell;
 
-ghost use Rattle.std.specs.Prelude.{◌≡◌, ℕ, IfOk, length, map};
-ghost use Rattle.sc_words.specs.Asks.{AreServeWords};
+ghost use Rattle.std.specs.Prelude.{◌≡◌, ℕ, IfOk, is_some, length, map, true};
+ghost use Rattle.sc_words.specs.Asks.{AreKeepWords, AreServeWords};
+ghost use Rattle.sc_words.specs.declared.command.Keeping.{Keeping as KeepingRecord};
 ghost use Rattle.sc_words.specs.declared.command.Serving.{Serving as ServingRecord};
 
+use sc_journal::FileDisk;
 use sc_net::TcpListen;
 use sc_outside::{Seq, StdSink, StdSource};
 use sc_page::Text;
-use sc_words::{Serving, serving_of};
+use sc_words::{keeping_of, serving_of};
 use std::alloc::AllocError;
+use std::fs::{self, File, OpenOptions};
 use std::net::TcpListener;
 use std::process::ExitCode;
 use std::{env, io};
@@ -41,14 +45,14 @@ fn words_of(rt: &HostRuntime) -> Result<Vec<Text>, AllocError> {
     }
 }
 
-/// The listeners of a server at a port of 127.0.0.1: one for each worker, all of one socket. Where the port can't be had
-/// they are listeners that fail.
-fn listeners(rt: &HostRuntime, serving: Serving) -> Result<Seq<TcpListen>, AllocError>
-    ensures { IfOk result (λ nets. length nets ≡ serving.workers) }
+/// So many listeners at a port of 127.0.0.1, one for each worker, all of one socket. Where the port can't be had they are
+/// listeners that fail.
+fn listeners(rt: &HostRuntime, port: u16, workers: u32) -> Result<Seq<TcpListen>, AllocError>
+    ensures { IfOk result (λ nets. length nets ≡ workers) }
 {
-    let mut nets = Vec::with_capacity(rt.alloc(), serving.workers as usize)?;
-    let bound = TcpListener::bind(rt, ("127.0.0.1", serving.port));
-    for _ in 0..serving.workers {
+    let mut nets = Vec::with_capacity(rt.alloc(), workers as usize)?;
+    let bound = TcpListener::bind(rt, ("127.0.0.1", port));
+    for _ in 0..workers {
         let listener = match &bound {
             Ok(listener) => listener.try_clone().ok(),
             Err(_) => None,
@@ -61,22 +65,68 @@ fn listeners(rt: &HostRuntime, serving: Serving) -> Result<Seq<TcpListen>, Alloc
     Ok(Seq::of(nets))
 }
 
-/// The listeners that the words ask for.
-fn listeners_for(rt: &HostRuntime, words: &[&str]) -> Result<Seq<TcpListen>, AllocError>
-    ensures { IfOk result (λ nets. (serving : ServingRecord) → AreServeWords (map (λ s. s.now) words.now) serving → length nets ≡ serving.workers) }
-{
-    match serving_of(words) {
-        Some(serving) => listeners(rt, serving),
-        None => Ok(Seq::new(rt.alloc())),
+/// The folder of a file.
+fn folder_of(path: &str) -> &str {
+    match path.rsplit_once("/") {
+        Some(("", _)) => "/",
+        Some((folder, _)) => folder,
+        None => ".",
     }
 }
 
+/// The file of a journal, which is made where it isn't there. There is none where it can't be opened, where another process
+/// has it open as its journal, or where its folder can't be stored.
+fn journal_at(rt: &HostRuntime, path: &str) -> Option<File> {
+    let file = OpenOptions::new()
+        .read(true)
+        .write(true)
+        .create(true)
+        .open(rt, path)
+        .ok()?;
+    file.try_lock().ok()?;
+    fs::open(rt, folder_of(path)).ok()?.sync_all().ok()?;
+    Some(file)
+}
+
+/// What the program gets from the system for the words: listeners of a server, and the disk of its journal.
+struct Outside {
+    nets: Seq<TcpListen>,
+    disk: Option<FileDisk>,
+}
+
+/// The listeners and the disk that the words ask for.
+fn outside_for(rt: &HostRuntime, words: &[&str]) -> Result<Outside, AllocError>
+    ensures serving { IfOk result (λ outside. (serving : ServingRecord) → AreServeWords (map (λ s. s.now) words.now) serving → length outside.nets ≡ serving.workers) }
+    ensures keeping { IfOk result (λ outside. (keeping : KeepingRecord) → AreKeepWords (map (λ s. s.now) words.now) keeping → (length outside.nets ≡ keeping.workers) × (is_some outside.disk ≡ true)) }
+{
+    if let Some(serving) = serving_of(words) {
+        return Ok(Outside {
+            nets: listeners(rt, serving.port, serving.workers)?,
+            disk: None,
+        });
+    }
+    if let Some(keeping) = keeping_of(words) {
+        return Ok(Outside {
+            nets: listeners(rt, keeping.port, keeping.workers)?,
+            disk: Some(match journal_at(rt, keeping.file) {
+                Some(file) => FileDisk::telling(file, rt.stderr()),
+                None => FileDisk::failed(),
+            }),
+        });
+    }
+    Ok(Outside {
+        nets: Seq::new(rt.alloc()),
+        disk: None,
+    })
+}
+
 /// The same of words that aren't lent yet.
-fn listeners_of(rt: &HostRuntime, words: &[Text]) -> Result<Seq<TcpListen>, AllocError>
-    ensures { IfOk result (λ nets. (serving : ServingRecord) → AreServeWords words.now serving → length nets ≡ serving.workers) }
+fn outside_of(rt: &HostRuntime, words: &[Text]) -> Result<Outside, AllocError>
+    ensures serving { IfOk result (λ outside. (serving : ServingRecord) → AreServeWords words.now serving → length outside.nets ≡ serving.workers) }
+    ensures keeping { IfOk result (λ outside. (keeping : KeepingRecord) → AreKeepWords words.now keeping → (length outside.nets ≡ keeping.workers) × (is_some outside.disk ≡ true)) }
 {
     let lent = program::lent(rt.alloc(), words)?;
-    listeners_for(rt, &lent)
+    outside_for(rt, &lent)
 }
 
 fn main(rt: HostRuntime) -> ExitCode {
@@ -86,7 +136,7 @@ fn main(rt: HostRuntime) -> ExitCode {
         tell_no_memory(&mut errors);
         return ExitCode::from(6);
     };
-    let Ok(mut nets) = listeners_of(&rt, &words) else {
+    let Ok(Outside { mut nets, mut disk }) = outside_of(&rt, &words) else {
         tell_no_memory(&mut errors);
         return ExitCode::from(6);
     };
@@ -100,6 +150,7 @@ fn main(rt: HostRuntime) -> ExitCode {
         &mut output,
         &mut errors,
         &mut nets,
+        &mut disk,
     );
     ExitCode::from(status)
 }

@@ -34,7 +34,7 @@ fn start_of_base() -> &'static str
 }
 
 /// The address of the server at a port, without a slash at its end.
-fn base_at(alloc: Global, port: u16) -> Result<Text, AllocError>
+pub(crate) fn base_at(alloc: Global, port: u16) -> Result<Text, AllocError>
     ensures { IfOk result (λ base. base ≡ base_of port) }
 {
     let mut digits = Buffer::new();
@@ -74,7 +74,10 @@ fn line(loads: u64, items: u64) -> ArrayString<64>
 }
 
 /// The line of a catalogue's history.
-fn line_of_catalogue(alloc: Global, catalogue: &Catalogue) -> Result<ArrayString<64>, AllocError>
+pub(crate) fn line_of_catalogue(
+    alloc: Global,
+    catalogue: &Catalogue,
+) -> Result<ArrayString<64>, AllocError>
     ensures { IfOk result (λ line. IsLineOf catalogue.now.entries line.bytes) }
 {
     let loads = catalogue.revision();

@@ -1,6 +1,7 @@
 ghost use Rattle.std.specs.Prelude.{◌≡◌, ◌++◌, ◌∷◌, [], length, decimal};
-ghost use Rattle.stacd.specs.Program.{Tells, message_of, message_of_connection, message_of_serving, usage_text, bad_line_start, bad_head_text, bad_length_text, cut_start, cut_end, listen_fault_text, read_fault_text, spent_text, write_fault_text, no_memory_text};
+ghost use Rattle.stacd.specs.Program.{Tells, message_of, message_of_connection, message_of_keeping, message_of_serving, usage_text, bad_line_start, bad_record_start, disk_fault_text, bad_head_text, bad_length_text, cut_start, cut_end, listen_fault_text, read_fault_text, spent_text, write_fault_text, no_memory_text};
 
+use crate::keeping::KeepEnd;
 use crate::page::PageEnd;
 use crate::serving::ServeEnd;
 use arrayvec::ArrayString;
@@ -22,7 +23,7 @@ fn tell<E: Sink>(errors: &mut E, text: &[u8])
 fn usage() -> &'static str
     ensures { result.now ≡ usage_text }
 {
-    "usage: stacd page LIMIT, pipe BASE, serve PORT WORKERS TIGHTENERS CONNS\n"
+    "usage: stacd page LIMIT, pipe BASE, serve PORT WORKERS TIGHTENERS CONNS, keep PORT WORKERS CONNS FILE\n"
 }
 
 #[tactic(auto, unfolding(crate::specs::Program::bad_line_start))]
@@ -98,6 +99,21 @@ fn listen_fault() -> &'static str
     "stacd: listen fault\n"
 }
 
+#[tactic(auto, unfolding(crate::specs::Program::bad_record_start))]
+fn bad_record() -> &'static str
+    ensures start { result.now ≡ bad_record_start }
+    ensures length { length result.now ≡ 18 }
+{
+    "stacd: bad record "
+}
+
+#[tactic(auto, unfolding(crate::specs::Program::disk_fault_text))]
+fn disk_fault() -> &'static str
+    ensures { result.now ≡ disk_fault_text }
+{
+    "stacd: disk fault\n"
+}
+
 /// Tells how the command line is written.
 pub fn tell_usage<E: Sink>(errors: &mut E)
     ensures { Tells (E.written errors.old) (E.written errors.new) (E.faults errors.old) (E.faults errors.new) usage_text }
@@ -167,6 +183,32 @@ pub fn tell_serving<E: Sink>(errors: &mut E, end: ServeEnd)
         ServeEnd::ListenFault => tell(errors, listen_fault().as_bytes()),
         ServeEnd::WriteFault => tell(errors, write_fault().as_bytes()),
         ServeEnd::OutOfMemory => tell(errors, no_memory().as_bytes()),
+    }
+}
+
+/// The text of a bad record.
+fn bad_record_text(n: u64) -> ArrayString<64>
+    ensures { result.bytes ≡ bad_record_start ++ decimal n ++ 10 ∷ [] }
+{
+    let mut digits = Buffer::new();
+    let mut text = ArrayString::new();
+    text.push_str(bad_record());
+    text.push_str(digits.format(n));
+    text.push_str("\n");
+    text
+}
+
+/// Tells the text of the end of a run of a server with a journal, if it has one.
+pub fn tell_keeping<E: Sink>(errors: &mut E, end: KeepEnd)
+    ensures { Tells (E.written errors.old) (E.written errors.new) (E.faults errors.old) (E.faults errors.new) (message_of_keeping end) }
+{
+    match end {
+        KeepEnd::Done => {}
+        KeepEnd::ListenFault => tell(errors, listen_fault().as_bytes()),
+        KeepEnd::BadRecord { n } => tell(errors, bad_record_text(n).as_bytes()),
+        KeepEnd::WriteFault => tell(errors, write_fault().as_bytes()),
+        KeepEnd::DiskFault => tell(errors, disk_fault().as_bytes()),
+        KeepEnd::OutOfMemory => tell(errors, no_memory().as_bytes()),
     }
 }
 

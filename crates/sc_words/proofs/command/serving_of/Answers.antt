@@ -7,4 +7,4 @@ use Rattle.sc_words.proofs.command.serving_of.Goals as goal
 pub returns-then-eq : goal.returns-then-eq
 returns-then-eq c =
     subst (λ t. MatchOption c.serving_in.result ((serving : Serving) → AreServeWords t serving → ⊥) (AreServeWords t))
-    (five c.args.words.now _ (search rules) (search rules) (search rules)) c.serving_in.ensures
+    (five c.args.words.now _ _ (search rules) (search rules) (search rules)) c.serving_in.ensures
