@@ -8,7 +8,7 @@ use Rattle.sc_outcome.specs.declared.outcome.Outcome.{Outcome}
 use Rattle.sc_machine.specs.State.{nothing}
 use Rattle.sc_weave.specs.declared.ending.WeaveEnd.{WeaveEnd}
 use Rattle.sc_weave.specs.declared.ending.WeaveEnd.TheVariants.{BadStep, ReadFault, OutOfMemory}
-use Rattle.sc_weave.specs.declared.loom.Loom.{Loom}
+use Rattle.sc_weave.specs.declared.progress.Progress.{Progress}
 use Rattle.sc_weave.specs.Weaving.{AreWoven, WeaveRan, lines_of_script, told}
 use Rattle.sc_weave.specs.Inside.{HasNoFeed, HasTaken, HasWritten, Stops}
 use Rattle.sc_weave.proofs.Following.{are_woven, nothing_woven, past_limit}
@@ -53,12 +53,12 @@ wants_first left old ended = record {
     none false = refl
 
 -- the end of the input
-pub woven_to_end : (start now : Option (List ℕ)) (loom : Loom) (pending taken : List ℕ) (h : HasTaken start now loom pending taken) (now' : Option (List ℕ)) (loom' : Loom) → HasWritten start now' loom' (h.lines ++ lines_of pending)
+pub woven_to_end : (start now : Option (List ℕ)) (progress : Progress) (pending taken : List ℕ) (h : HasTaken start now progress pending taken) (now' : Option (List ℕ)) (progress' : Progress) → HasWritten start now' progress' (h.lines ++ lines_of pending)
     → (true ≡ true) × (outcomes : List Outcome) × AreWoven (lines_of taken) outcomes × Appends start now' (told outcomes)
-woven_to_end start now loom pending taken h now' loom' w = (
+woven_to_end start now progress pending taken h now' progress' w = (
   refl,
   w.told.outcomes,
-  subst (λ t. AreWoven t w.told.outcomes) (sym (these_lines start now loom pending taken h true)) (are_woven _ _ _ _ _ w.told.woven),
+  subst (λ t. AreWoven t w.told.outcomes) (sym (these_lines start now progress pending taken h true)) (are_woven _ _ _ _ _ w.told.woven),
   tells_whole _ _ _ _ w.told.tells w.none,
 )
 
@@ -70,9 +70,9 @@ module _ (left left' left'' : Option (List ℕ)) (taken : List ℕ) (took : Cons
     ends = ends_so end (lines_of_script (taken ++ more) ended) ended old new (stops (ended || nat_lt (2 ^ 28) (length (taken ++ more))));
   }
 
-module _ (left left' : Option (List ℕ)) (taken : List ℕ) (took : Consumes left left' taken) (start now : Option (List ℕ)) (loom : Loom) (pending : List ℕ) (h : HasTaken start now loom pending taken) where
-  size : length taken ≡ loom.read + length pending
-  size = size_taken start now loom pending taken h
+module _ (left left' : Option (List ℕ)) (taken : List ℕ) (took : Consumes left left' taken) (start now : Option (List ℕ)) (progress : Progress) (pending : List ℕ) (h : HasTaken start now progress pending taken) where
+  size : length taken ≡ progress.read + length pending
+  size = size_taken start now progress pending taken h
 
   is_woven : AreWoven h.lines h.written.told.outcomes
   is_woven = are_woven _ _ _ _ _ h.written.told.woven
@@ -81,7 +81,7 @@ module _ (left left' : Option (List ℕ)) (taken : List ℕ) (took : Consumes le
   wrote = tells_whole _ _ _ _ h.written.told.tells h.written.none
 
   -- the input failed
-  pub ran_to_fault : (left'' : Option (List ℕ)) (ended : Bool) → Keeps left' left'' → ended ≡ false → loom.read + length pending ≤ 2 ^ 28 → WeaveRan ReadFault left left'' ended start now
+  pub ran_to_fault : (left'' : Option (List ℕ)) (ended : Bool) → Keeps left' left'' → ended ≡ false → progress.read + length pending ≤ 2 ^ 28 → WeaveRan ReadFault left left'' ended start now
   ran_to_fault left'' ended kept e few = record {
     taken = taken;
     took = consumes_kept left left' left'' taken took kept;
@@ -92,10 +92,10 @@ module _ (left left' : Option (List ℕ)) (taken : List ℕ) (took : Consumes le
       short = grind (arith, nat_tests, size, few)
 
       these : lines_of_script taken ended ≡ h.lines
-      these = (λ k. lines_to_read (e k || short k) taken) ∙ these_lines start now loom pending taken h false ∙ ap (λ t. h.lines ++ t) (no_whole_line pending h.behind) ∙ append-nil h.lines
+      these = (λ k. lines_to_read (e k || short k) taken) ∙ these_lines start now progress pending taken h false ∙ ap (λ t. h.lines ++ t) (no_whole_line pending h.behind) ∙ append-nil h.lines
 
   -- a byte is past the limit
-  pub ran_to_limit : (ended : Bool) → 2 ^ 28 < loom.read + length pending → WeaveRan (BadStep (loom.count + 1)) left left' ended start now
+  pub ran_to_limit : (ended : Bool) → 2 ^ 28 < progress.read + length pending → WeaveRan (BadStep (progress.count + 1)) left left' ended start now
   ran_to_limit ended long = record {
     taken = taken;
     took = took;
@@ -105,7 +105,7 @@ module _ (left left' : Option (List ℕ)) (taken : List ℕ) (took : Consumes le
         before = h.lines;
         line = pending;
         after = [];
-        place = all_true ended (nat_lt (2 ^ 28) (length taken)) past ∙ these_lines start now loom pending taken h true ∙ ap (λ t. h.lines ++ t) (only pending h.behind some);
+        place = all_true ended (nat_lt (2 ^ 28) (length taken)) past ∙ these_lines start now progress pending taken h true ∙ ap (λ t. h.lines ++ t) (only pending h.behind some);
         number = ap (λ n. n + 1) (sym h.written.told.woven.count_is);
         good = is_woven;
         bad = past_limit _ _ _ _ _ h.written.told.woven pending (inr (omega (arith, long)));

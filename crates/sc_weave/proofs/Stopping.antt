@@ -4,7 +4,7 @@ use Rattle.std.specs.declared.option.Option.{Option}
 use Rattle.sc_outside.specs.Outside.{AppendsFront}
 use Rattle.sc_weave.specs.declared.ending.WeaveEnd.{WeaveEnd}
 use Rattle.sc_weave.specs.declared.ending.WeaveEnd.TheVariants.{Done, BadStep, ReadFault, WriteFault, OutOfMemory}
-use Rattle.sc_weave.specs.declared.loom.Loom.{Loom}
+use Rattle.sc_weave.specs.declared.progress.Progress.{Progress}
 use Rattle.sc_weave.specs.Weaving.{WritesFront, EndsOn, told}
 use Rattle.sc_weave.specs.Inside.{HasTold, HasWritten, CantFollow, Stops}
 use Rattle.sc_weave.proofs.Following.{are_woven}
@@ -56,8 +56,8 @@ not_read_fault WriteFault lines start now s e = cc
 not_read_fault OutOfMemory lines start now s e = cc
 
 -- where a front of what tells the lines was written
-pub front_written : (lines : List (List ℕ)) (start now next : Option (List ℕ)) (loom : Loom) (h : HasTold start now loom lines) → AppendsFront start next (told h.outcomes) → WritesFront lines start next
-front_written lines start now next loom h front = record {
+pub front_written : (lines : List (List ℕ)) (start now next : Option (List ℕ)) (progress : Progress) (h : HasTold start now progress lines) → AppendsFront start next (told h.outcomes) → WritesFront lines start next
+front_written lines start now next progress h front = record {
   before = lines;
   after = [];
   place = sym (append-nil lines);
@@ -67,13 +67,13 @@ front_written lines start now next loom h front = record {
 }
 
 -- where nothing more was written
-pub stops_here : (lines rest : List (List ℕ)) (start now : Option (List ℕ)) (loom : Loom) → HasTold start now loom lines → WritesFront (lines ++ rest) start now
-stops_here lines rest start now loom h = writes_more lines rest start now (front_written lines start now now loom h (tells_so_far _ _ _ _ h.tells))
+pub stops_here : (lines rest : List (List ℕ)) (start now : Option (List ℕ)) (progress : Progress) → HasTold start now progress lines → WritesFront (lines ++ rest) start now
+stops_here lines rest start now progress h = writes_more lines rest start now (front_written lines start now now progress h (tells_so_far _ _ _ _ h.tells))
 
 -- at a line that can't follow
-pub stops_at_line : (lines rest : List (List ℕ)) (line : List ℕ) (n count : ℕ) (start now : Option (List ℕ)) (loom : Loom) → n ≡ min (count + 1) (2 ^ 64 - 1) → length lines ≡ count → count ≤ 1000000 → HasWritten start now loom lines → CantFollow lines line
+pub stops_at_line : (lines rest : List (List ℕ)) (line : List ℕ) (n count : ℕ) (start now : Option (List ℕ)) (progress : Progress) → n ≡ min (count + 1) (2 ^ 64 - 1) → length lines ≡ count → count ≤ 1000000 → HasWritten start now progress lines → CantFollow lines line
     → Stops (BadStep n) (lines ++ line ∷ rest) start now
-stops_at_line lines rest line n count start now loom e c few w bad = (
+stops_at_line lines rest line n count start now progress e c few w bad = (
   w.told.outcomes,
   record {
     before = lines;

@@ -8,7 +8,7 @@ use Rattle.sc_outcome.specs.declared.outcome.Outcome.{Outcome}
 use Rattle.sc_machine.specs.State.{State, nothing}
 use Rattle.sc_weave.specs.declared.ending.WeaveEnd.{WeaveEnd}
 use Rattle.sc_weave.specs.declared.ending.WeaveEnd.TheVariants.{BadStep, WriteFault, OutOfMemory}
-use Rattle.sc_weave.specs.declared.loom.Loom.{Loom}
+use Rattle.sc_weave.specs.declared.progress.Progress.{Progress}
 use Rattle.sc_weave.specs.Weaving.{Weaves, AreWoven, IsFirstBad, WritesFront, told}
 
 -- ---- bytes
@@ -34,7 +34,7 @@ pub record HasWoven (count read : ℕ) (state : State) (lines : List (List ℕ))
   pub weaves : Weaves nothing lines outcomes state
   pub count_is : length lines ≡ count
   pub read_is : length (concat lines) ≡ read
-  pub few : count ≤ 1000000
+  pub few : count ≤ 1_000_000
   pub short : read ≤ 2 ^ 28
 
 -- what was written since a start, and then what waits, tells the outcomes
@@ -43,24 +43,24 @@ pub record Tells (start now : Option (List ℕ)) (waiting : List ℕ) (outcomes 
   pub appended : Appends start now written
   pub all : told outcomes ≡ written ++ waiting
 
-pub record HasTold (start now : Option (List ℕ)) (loom : Loom) (lines : List (List ℕ)) : Type 0 where
+pub record HasTold (start now : Option (List ℕ)) (progress : Progress) (lines : List (List ℕ)) : Type 0 where
   pub outcomes : List Outcome
-  pub woven : HasWoven loom.count loom.read loom.machine lines outcomes
-  pub tells : Tells start now (string_bytes loom.out) outcomes
+  pub woven : HasWoven progress.count progress.read progress.machine lines outcomes
+  pub tells : Tells start now (string_bytes progress.out) outcomes
 
 -- and nothing waits
-pub record HasWritten (start now : Option (List ℕ)) (loom : Loom) (lines : List (List ℕ)) : Type 0 where
-  pub told : HasTold start now loom lines
-  pub none : string_bytes loom.out ≡ []
+pub record HasWritten (start now : Option (List ℕ)) (progress : Progress) (lines : List (List ℕ)) : Type 0 where
+  pub told : HasTold start now progress lines
+  pub none : string_bytes progress.out ≡ []
 
 -- these bytes were taken: whole lines, which were woven, and a front of the next, which is pending
-pub record HasTaken (start now : Option (List ℕ)) (loom : Loom) (pending taken : List ℕ) : Type 0 where
+pub record HasTaken (start now : Option (List ℕ)) (progress : Progress) (pending taken : List ℕ) : Type 0 where
   pub done : List ℕ
   pub lines : List (List ℕ)
   pub whole : AreWhole done lines
   pub parts : taken ≡ done ++ pending
   pub behind : HasNoFeed pending
-  pub written : HasWritten start now loom lines
+  pub written : HasWritten start now progress lines
 
 -- the line behind these is no step, or is past a limit
 abbrev pub CantFollow : List (List ℕ) → List ℕ → Type 0

@@ -28,7 +28,7 @@ Weaves old (line ∷ lines) (outcome ∷ outcomes) new =
 pub record AreWoven (lines : List (List ℕ)) (outcomes : List Outcome) : Type 0 where
   pub last : State
   pub weaves : Weaves nothing lines outcomes last
-  pub few : length lines ≤ 1000000
+  pub few : length lines ≤ 1_000_000
   pub short : length (concat lines) ≤ 2 ^ 28
 
 -- line n, from 1, is the first that is no step or is past a limit; those before it give these outcomes

@@ -3,7 +3,7 @@
 
 mod ending;
 mod lines;
-mod loom;
+mod progress;
 mod run;
 mod writing;
 

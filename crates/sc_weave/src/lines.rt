@@ -6,7 +6,7 @@ ghost use Rattle.sc_weave.specs.declared.ending.WeaveEnd.TheVariants.{WriteFault
 ghost use Rattle.sc_weave.specs.Inside.{HasTaken, HasTold, HasWritten, IsBehindFeeds, Stops};
 
 use crate::ending::WeaveEnd;
-use crate::loom::{Loom, weave_line};
+use crate::progress::{Progress, weave_line};
 use crate::writing::{end_at_line, write_out};
 use memchr::memrchr;
 use sc_outside::{Sink, Steps, next_line};
@@ -18,16 +18,16 @@ use std::sync::ledger::Ledger;
 const MOST_WAITING: usize = 65_536;
 
 /// Writes what waits where it is much.
-fn write_if_full<K: Sink>(loom: &mut Loom, sink: &mut K) -> Result<(), WeaveEnd>
-    ensures stops { (start : Option (List ℕ)) (lines rest : List (List ℕ)) → HasTold start (K.written sink.old) loom.old lines →
-        MatchResult result (λ _. HasTold start (K.written sink.new) loom.new lines) (λ end. Stops end (lines ++ rest) start (K.written sink.new)) }
+fn write_if_full<K: Sink>(progress: &mut Progress, sink: &mut K) -> Result<(), WeaveEnd>
+    ensures stops { (start : Option (List ℕ)) (lines rest : List (List ℕ)) → HasTold start (K.written sink.old) progress.old lines →
+        MatchResult result (λ _. HasTold start (K.written sink.new) progress.new lines) (λ end. Stops end (lines ++ rest) start (K.written sink.new)) }
     ensures write { IfErr result (λ end. end ≡ WriteFault → Rose (K.faults sink.old) (K.faults sink.new)) }
     ensures later { K.faults sink.old ≤ K.faults sink.new }
 {
-    if loom.out.len() < MOST_WAITING {
+    if progress.out.len() < MOST_WAITING {
         return Ok(());
     }
-    match write_out(loom, sink) {
+    match write_out(progress, sink) {
         Ok(()) => Ok(()),
         Err(_) => Err(WeaveEnd::WriteFault),
     }
@@ -36,19 +36,19 @@ fn write_if_full<K: Sink>(loom: &mut Loom, sink: &mut K) -> Result<(), WeaveEnd>
 /// Weaves the next line, or ends at it.
 fn weave_next<K: Sink, L: Ledger>(
     alloc: Global,
-    loom: &mut Loom,
+    progress: &mut Progress,
     line: &[u8],
     sink: &mut K,
     steps: &mut Steps<L>,
 ) -> Result<(), WeaveEnd>
-    ensures stops { (start : Option (List ℕ)) (lines rest : List (List ℕ)) → HasTold start (K.written sink.old) loom.old lines →
-        MatchResult result (λ _. HasTold start (K.written sink.new) loom.new (lines ++ line.now ∷ [])) (λ end. Stops end (lines ++ line.now ∷ rest) start (K.written sink.new)) }
+    ensures stops { (start : Option (List ℕ)) (lines rest : List (List ℕ)) → HasTold start (K.written sink.old) progress.old lines →
+        MatchResult result (λ _. HasTold start (K.written sink.new) progress.new (lines ++ line.now ∷ [])) (λ end. Stops end (lines ++ line.now ∷ rest) start (K.written sink.new)) }
     ensures write { IfErr result (λ end. end ≡ WriteFault → Rose (K.faults sink.old) (K.faults sink.new)) }
     ensures later { K.faults sink.old ≤ K.faults sink.new }
 {
-    match weave_line(alloc, loom, line, steps) {
-        Ok(()) => write_if_full(loom, sink),
-        Err(StepFault::BadStep) => Err(end_at_line(loom, sink)),
+    match weave_line(alloc, progress, line, steps) {
+        Ok(()) => write_if_full(progress, sink),
+        Err(StepFault::BadStep) => Err(end_at_line(progress, sink)),
         Err(StepFault::OutOfMemory) => Err(WeaveEnd::OutOfMemory),
     }
 }
@@ -56,19 +56,19 @@ fn weave_next<K: Sink, L: Ledger>(
 /// Weaves all lines of these bytes, of which the last may lack its line feed.
 fn weave_lines<K: Sink, L: Ledger>(
     alloc: Global,
-    loom: &mut Loom,
+    progress: &mut Progress,
     bytes: &[u8],
     sink: &mut K,
     steps: &mut Steps<L>,
 ) -> Result<(), WeaveEnd>
-    ensures stops { (start : Option (List ℕ)) (lines : List (List ℕ)) → HasTold start (K.written sink.old) loom.old lines →
-        MatchResult result (λ _. HasTold start (K.written sink.new) loom.new (lines ++ lines_of bytes.now)) (λ end. Stops end (lines ++ lines_of bytes.now) start (K.written sink.new)) }
+    ensures stops { (start : Option (List ℕ)) (lines : List (List ℕ)) → HasTold start (K.written sink.old) progress.old lines →
+        MatchResult result (λ _. HasTold start (K.written sink.new) progress.new (lines ++ lines_of bytes.now)) (λ end. Stops end (lines ++ lines_of bytes.now) start (K.written sink.new)) }
     ensures write { IfErr result (λ end. end ≡ WriteFault → Rose (K.faults sink.old) (K.faults sink.new)) }
     ensures later { K.faults sink.old ≤ K.faults sink.new }
 {
     let mut rest = bytes;
     'weaving: while let Some((line, after)) = next_line(rest, true) {
-        match weave_next(alloc, loom, line, sink, steps) {
+        match weave_next(alloc, progress, line, sink, steps) {
             Ok(()) => {}
             Err(end) => return Err(end),
         }
@@ -80,21 +80,21 @@ fn weave_lines<K: Sink, L: Ledger>(
 /// Weaves all lines of these bytes, and writes what was told.
 pub(crate) fn weave_all<K: Sink, L: Ledger>(
     alloc: Global,
-    loom: &mut Loom,
+    progress: &mut Progress,
     bytes: &[u8],
     sink: &mut K,
     steps: &mut Steps<L>,
 ) -> Result<(), WeaveEnd>
-    ensures stops { (start : Option (List ℕ)) (lines : List (List ℕ)) → HasTold start (K.written sink.old) loom.old lines →
-        MatchResult result (λ _. HasWritten start (K.written sink.new) loom.new (lines ++ lines_of bytes.now)) (λ end. Stops end (lines ++ lines_of bytes.now) start (K.written sink.new)) }
+    ensures stops { (start : Option (List ℕ)) (lines : List (List ℕ)) → HasTold start (K.written sink.old) progress.old lines →
+        MatchResult result (λ _. HasWritten start (K.written sink.new) progress.new (lines ++ lines_of bytes.now)) (λ end. Stops end (lines ++ lines_of bytes.now) start (K.written sink.new)) }
     ensures write { IfErr result (λ end. end ≡ WriteFault → Rose (K.faults sink.old) (K.faults sink.new)) }
     ensures later { K.faults sink.old ≤ K.faults sink.new }
 {
-    match weave_lines(alloc, loom, bytes, sink, steps) {
+    match weave_lines(alloc, progress, bytes, sink, steps) {
         Ok(()) => {}
         Err(end) => return Err(end),
     }
-    match write_out(loom, sink) {
+    match write_out(progress, sink) {
         Ok(()) => Ok(()),
         Err(_) => Err(WeaveEnd::WriteFault),
     }
@@ -113,14 +113,14 @@ fn behind_feeds(bytes: &[u8]) -> usize
 /// Weaves the lines that these bytes end. The front of the next line stays pending.
 pub(crate) fn weave_bytes<K: Sink, L: Ledger>(
     alloc: Global,
-    loom: &mut Loom,
+    progress: &mut Progress,
     pending: &mut Vec<u8>,
     bytes: &[u8],
     sink: &mut K,
     steps: &mut Steps<L>,
 ) -> Result<(), WeaveEnd>
-    ensures stops { (start : Option (List ℕ)) (taken : List ℕ) → HasTaken start (K.written sink.old) loom.old pending.old.items taken →
-        MatchResult result (λ _. HasTaken start (K.written sink.new) loom.new pending.new.items (taken ++ bytes.now)) (λ end. (all : Bool) → Stops end (lines_to_read all (taken ++ bytes.now)) start (K.written sink.new)) }
+    ensures stops { (start : Option (List ℕ)) (taken : List ℕ) → HasTaken start (K.written sink.old) progress.old pending.old.items taken →
+        MatchResult result (λ _. HasTaken start (K.written sink.new) progress.new pending.new.items (taken ++ bytes.now)) (λ end. (all : Bool) → Stops end (lines_to_read all (taken ++ bytes.now)) start (K.written sink.new)) }
     ensures write { IfErr result (λ end. end ≡ WriteFault → Rose (K.faults sink.old) (K.faults sink.new)) }
     ensures later { K.faults sink.old ≤ K.faults sink.new }
 {
@@ -136,7 +136,7 @@ pub(crate) fn weave_bytes<K: Sink, L: Ledger>(
         Ok(()) => {}
         Err(_) => return Err(WeaveEnd::OutOfMemory),
     }
-    match weave_all(alloc, loom, pending.as_slice(), sink, steps) {
+    match weave_all(alloc, progress, pending.as_slice(), sink, steps) {
         Ok(()) => {}
         Err(end) => return Err(end),
     }

@@ -8,7 +8,7 @@ ghost use Rattle.sc_weave.specs.Inside.{HasTaken};
 
 use crate::ending::WeaveEnd;
 use crate::lines::{weave_all, weave_bytes};
-use crate::loom::{Loom, MOST_BYTES};
+use crate::progress::{MOST_BYTES, Progress};
 use sc_outside::{Sink, Source, Steps};
 use std::alloc::Global;
 use std::sync::ledger::Ledger;
@@ -16,17 +16,17 @@ use std::sync::ledger::Ledger;
 /// Weaves what is pending at the input's end.
 fn finish<K: Sink, L: Ledger>(
     alloc: Global,
-    loom: &mut Loom,
+    progress: &mut Progress,
     pending: &[u8],
     sink: &mut K,
     steps: &mut Steps<L>,
 ) -> WeaveEnd
-    ensures ends { (start : Option (List ℕ)) (taken : List ℕ) → HasTaken start (K.written sink.old) loom.old pending.now taken → EndsOn result (lines_to_read true taken) true start (K.written sink.new) }
-    ensures read { (start : Option (List ℕ)) (taken : List ℕ) → HasTaken start (K.written sink.old) loom.old pending.now taken → result ≢ ReadFault }
+    ensures ends { (start : Option (List ℕ)) (taken : List ℕ) → HasTaken start (K.written sink.old) progress.old pending.now taken → EndsOn result (lines_to_read true taken) true start (K.written sink.new) }
+    ensures read { (start : Option (List ℕ)) (taken : List ℕ) → HasTaken start (K.written sink.old) progress.old pending.now taken → result ≢ ReadFault }
     ensures write { result ≡ WriteFault → Rose (K.faults sink.old) (K.faults sink.new) }
     ensures later { K.faults sink.old ≤ K.faults sink.new }
 {
-    match weave_all(alloc, loom, pending, sink, steps) {
+    match weave_all(alloc, progress, pending, sink, steps) {
         Ok(()) => WeaveEnd::Done,
         Err(end) => end,
     }
@@ -50,17 +50,24 @@ pub fn weave<S: Source, K: Sink, L: Ledger>(
     ensures source_faults { S.faults source.old ≤ S.faults source.new }
     ensures sink_faults { K.faults sink.old ≤ K.faults sink.new }
 {
-    let mut loom = match Loom::new(alloc) {
-        Ok(loom) => loom,
+    let mut progress = match Progress::new(alloc) {
+        Ok(progress) => progress,
         Err(_) => return WeaveEnd::OutOfMemory,
     };
     let mut pending = Vec::new(alloc);
     let mut buf = [0u8; 65536];
-    'reading: while loom.read + pending.len() <= MOST_BYTES {
+    'reading: while progress.read + pending.len() <= MOST_BYTES {
         match source.read(&mut buf) {
-            Ok(0) => return finish(alloc, &mut loom, pending.as_slice(), sink, steps),
+            Ok(0) => return finish(alloc, &mut progress, pending.as_slice(), sink, steps),
             Ok(count) => {
-                match weave_bytes(alloc, &mut loom, &mut pending, &buf[..count], sink, steps) {
+                match weave_bytes(
+                    alloc,
+                    &mut progress,
+                    &mut pending,
+                    &buf[..count],
+                    sink,
+                    steps,
+                ) {
                     Ok(()) => {}
                     Err(end) => return end,
                 }
@@ -69,6 +76,6 @@ pub fn weave<S: Source, K: Sink, L: Ledger>(
         }
     }
     WeaveEnd::BadStep {
-        line: loom.count as u64 + 1,
+        line: progress.count as u64 + 1,
     }
 }

@@ -7,7 +7,7 @@ use Rattle.sc_weave.proofs.lines.weave_lines.Given as goal
 
 abbrev pub invariant-weaving : goal.invariant-weaving
 invariant-weaving g l = record {
-  midway : (start : Option (List ℕ)) (lines : List (List ℕ)) → HasTold start (g.K.Sink.written l.fn.sink) l.fn.loom lines → Midway start (g.K.Sink.written l.sink) l.loom lines (lines_of l.bytes) l.rest;
+  midway : (start : Option (List ℕ)) (lines : List (List ℕ)) → HasTold start (g.K.Sink.written l.fn.sink) l.fn.progress lines → Midway start (g.K.Sink.written l.sink) l.progress lines (lines_of l.bytes) l.rest;
   later : g.K.Sink.faults l.fn.sink ≤ g.K.Sink.faults l.sink;
 }
 

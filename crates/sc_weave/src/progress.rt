@@ -20,9 +20,9 @@ pub(crate) const MOST_BYTES: usize = 1 << 28;
 /// The most lines of input.
 pub(crate) const MOST_LINES: usize = 1_000_000;
 
-/// What weaves lines one after another.
+/// How far a run of a script is.
 #[derive(Drop)]
-pub(crate) struct Loom {
+pub(crate) struct Progress {
     machine: Machine,
     /// How many lines were woven.
     pub(crate) count: usize,
@@ -32,12 +32,12 @@ pub(crate) struct Loom {
     pub(crate) out: String,
 }
 
-impl Loom {
-    /// A loom that has woven nothing.
-    pub(crate) fn new(alloc: Global) -> Result<Loom, AllocError>
-        ensures { IfOk result (λ loom. (start : Option (List ℕ)) → HasWritten start start loom []) }
+impl Progress {
+    /// Nothing was woven yet.
+    pub(crate) fn new(alloc: Global) -> Result<Progress, AllocError>
+        ensures { IfOk result (λ progress. (start : Option (List ℕ)) → HasWritten start start progress []) }
     {
-        Ok(Loom {
+        Ok(Progress {
             machine: Machine::new(alloc)?,
             count: 0,
             read: 0,
@@ -47,48 +47,48 @@ impl Loom {
 }
 
 /// Whether a line is past a limit.
-fn is_past(loom: &Loom, line: &[u8]) -> bool
-    ensures { MatchBool result ((1000000 ≤ loom.now.count) ⊎ (2 ^ 28 - loom.now.read < length line.now)) ((loom.now.count < 1000000) × (length line.now ≤ 2 ^ 28 - loom.now.read)) }
+fn is_past(progress: &Progress, line: &[u8]) -> bool
+    ensures { MatchBool result ((1_000_000 ≤ progress.now.count) ⊎ (2 ^ 28 - progress.now.read < length line.now)) ((progress.now.count < 1_000_000) × (length line.now ≤ 2 ^ 28 - progress.now.read)) }
 {
-    loom.count >= MOST_LINES || line.len() > MOST_BYTES.saturating_sub(loom.read)
+    progress.count >= MOST_LINES || line.len() > MOST_BYTES.saturating_sub(progress.read)
 }
 
 /// Takes a step, and adds the line that tells its outcome.
 fn take_step<L: Ledger>(
     alloc: Global,
-    loom: &mut Loom,
+    progress: &mut Progress,
     step: Step,
     steps: &mut Steps<L>,
 ) -> Result<(), AllocError>
     requires { HasGoodTrees step }
-    ensures taken { OnOk result ((outcome : Outcome) × Takes step loom.old.machine loom.new.machine outcome × (string_bytes loom.new.out ≡ string_bytes loom.old.out ++ line_of outcome)) }
-    ensures count { loom.new.count ≡ loom.old.count }
-    ensures read { loom.new.read ≡ loom.old.read }
+    ensures taken { OnOk result ((outcome : Outcome) × Takes step progress.old.machine progress.new.machine outcome × (string_bytes progress.new.out ≡ string_bytes progress.old.out ++ line_of outcome)) }
+    ensures count { progress.new.count ≡ progress.old.count }
+    ensures read { progress.new.read ≡ progress.old.read }
 {
-    let outcome = loom.machine.take(alloc, step, steps)?;
-    push_line(alloc, &mut loom.out, &outcome)
+    let outcome = progress.machine.take(alloc, step, steps)?;
+    push_line(alloc, &mut progress.out, &outcome)
 }
 
 /// Weaves the next line. A line that is no step, or is past a limit, changes nothing.
 pub(crate) fn weave_line<L: Ledger>(
     alloc: Global,
-    loom: &mut Loom,
+    progress: &mut Progress,
     line: &[u8],
     steps: &mut Steps<L>,
 ) -> Result<(), StepFault>
-    ensures ok { (start now : Option (List ℕ)) (lines : List (List ℕ)) → HasTold start now loom.old lines → OnOk result (HasTold start now loom.new (lines ++ line.now ∷ [])) }
-    ensures same { IfErr result (λ fault. fault ≡ BadStep → loom.new ≡ loom.old) }
-    ensures bad { (start now : Option (List ℕ)) (lines : List (List ℕ)) → HasTold start now loom.old lines → IfErr result (λ fault. fault ≡ BadStep → CantFollow lines line.now) }
+    ensures ok { (start now : Option (List ℕ)) (lines : List (List ℕ)) → HasTold start now progress.old lines → OnOk result (HasTold start now progress.new (lines ++ line.now ∷ [])) }
+    ensures same { IfErr result (λ fault. fault ≡ BadStep → progress.new ≡ progress.old) }
+    ensures bad { (start now : Option (List ℕ)) (lines : List (List ℕ)) → HasTold start now progress.old lines → IfErr result (λ fault. fault ≡ BadStep → CantFollow lines line.now) }
 {
-    if is_past(loom, line) {
+    if is_past(progress, line) {
         return Err(StepFault::BadStep);
     }
     let step = match read_step(alloc, line_without_feed(line)) {
         Ok(step) => step,
         Err(fault) => return Err(fault),
     };
-    take_step(alloc, loom, step, steps)?;
-    loom.count += 1;
-    loom.read += line.len();
+    take_step(alloc, progress, step, steps)?;
+    progress.count += 1;
+    progress.read += line.len();
     Ok(())
 }

@@ -3,7 +3,7 @@ use Rattle.sc_outside.specs.Lines.{without_feed}
 use Rattle.sc_script.specs.Step.{Answers}
 use Rattle.sc_weave.proofs.Following.{past_limit, no_step}
 use Rattle.sc_weave.proofs.Taking.{told_more}
-use Rattle.sc_weave.proofs.loom.weave_line.Goals as goal
+use Rattle.sc_weave.proofs.progress.weave_line.Goals as goal
 
 pub returns-then-is_past-clause-bad : goal.returns-then-is_past-clause-bad
 returns-then-is_past-clause-bad g c = λ start now lines h e. past_limit _ _ _ _ _ h.woven _ c.if-is_past.ensures
